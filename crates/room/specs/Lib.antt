@@ -1,0 +1,4 @@
+pub mod Room
+pub mod Parts
+pub mod Replaced
+pub mod Fitting

@@ -1,0 +1,148 @@
+-- A list of words in which each word x is replaced by the words ws. On prefix words this is substitution: x is an unknown's
+-- word, and ws are the words of its value.
+--
+-- In order: the definitions; one step; two sources joined; how long the result is; nothing to replace, before and after; the
+-- words before the first x. Not here: as much of the result as fits a capacity (`Fitting`).
+use mathlib.Core.Path.{_≡_, refl, sym, ap, _∙_}
+use mathlib.Core.Bool.{Bool, true, false, cond}
+use mathlib.Core.List.{List, [], _∷_, _++_, append-assoc, append-nil}
+use Prim.Native.Nat.{ℕ, suc, _+_, _*_, _≤_, _<_}
+use native.Mathlib.Omega.{arith}
+use native.Mathlib.Nat.{zero-mul, suc-mul}
+use lib.ListN.{length, take, getD, length-append}
+use lib.Dec.{eqb}
+use borrow.Author.Tests.{eq-eqb, ne-eqb, eqb-true, eqb-false}
+
+-- what stands for the word w
+unfoldable pub image : ℕ → List ℕ → ℕ → List ℕ
+image x ws w = cond (eqb w x) ws (w ∷ [])
+
+unfoldable pub replaced : ℕ → List ℕ → List ℕ → List ℕ
+replaced x ws [] = []
+replaced x ws (w ∷ s) = image x ws w ++ replaced x ws s
+
+-- how many words x there are
+unfoldable pub count : ℕ → List ℕ → ℕ
+count x [] = 0
+count x (w ∷ s) = cond (eqb w x) (suc (count x s)) (count x s)
+
+-- the words before the first x
+unfoldable pub before : ℕ → List ℕ → List ℕ
+before x [] = []
+before x (w ∷ s) = cond (eqb w x) [] (w ∷ before x s)
+
+-- by what a test says
+pub by-test : {P : Type 0} (b : Bool) → (b ≡ true → P) → (b ≡ false → P) → P
+by-test true f g = f refl
+by-test false f g = g refl
+
+pub count-append : (x : ℕ) (s t : List ℕ) → count x (s ++ t) ≡ count x s + count x t
+unfolding count
+count-append x [] t = omega arith
+count-append x (w ∷ s) t =
+    by-test (eqb w x) (λ e. rw e (omega (arith, count-append x s t))) (λ e. rw e (omega (arith, count-append x s t)))
+
+module _ (x : ℕ) (ws : List ℕ) where
+  -- ---- one step
+
+  pub image-same : (w : ℕ) → w ≡ x → image x ws w ≡ ws
+  unfolding image
+  image-same w e = rw (eq-eqb w x e)
+
+  pub image-other : (w : ℕ) → (w ≡ x → ⊥) → image x ws w ≡ w ∷ []
+  unfolding image
+  image-other w e = rw (ne-eqb w x e)
+
+  pub replaced-nil : replaced x ws [] ≡ []
+  unfolding replaced
+  replaced-nil = refl
+
+  pub replaced-cons : (w : ℕ) (s : List ℕ) → replaced x ws (w ∷ s) ≡ image x ws w ++ replaced x ws s
+  unfolding replaced
+  replaced-cons w s = refl
+
+  -- ---- two sources joined
+
+  pub replaced-append : (s t : List ℕ) → replaced x ws (s ++ t) ≡ replaced x ws s ++ replaced x ws t
+  unfolding replaced
+  replaced-append [] t = refl
+  replaced-append (w ∷ s) t = rw (replaced-append s t) (sym (append-assoc (image x ws w) (replaced x ws s) (replaced x ws t)))
+
+  -- one word more at the end
+  pub replaced-more : (s : List ℕ) (w : ℕ) → replaced x ws (s ++ (w ∷ [])) ≡ replaced x ws s ++ image x ws w
+  unfolding replaced
+  replaced-more s w = replaced-append s (w ∷ []) ∙ ap (λ (r : List ℕ). replaced x ws s ++ r) (append-nil (image x ws w))
+
+  -- ---- how long the result is
+
+  -- each x goes, and as many words as ws has come for it
+  pub length-replaced : (s : List ℕ) → length (replaced x ws s) + count x s ≡ length s + count x s * length ws
+  unfolding replaced image count
+  length-replaced [] = omega (arith, zero-mul (length ws))
+  length-replaced (w ∷ s) =
+      by-test (eqb w x)
+      (λ e. rw e (omega (arith, length-append ws (replaced x ws s), length-replaced s, suc-mul (count x s) (length ws))))
+      (λ e. rw e (omega (arith, length-replaced s)))
+
+  -- nothing gets shorter where ws has a word
+  pub length-le-replaced : (s : List ℕ) → 1 ≤ length ws → length s ≤ length (replaced x ws s)
+  unfolding replaced image
+  length-le-replaced [] h = omega arith
+  length-le-replaced (w ∷ s) h =
+      by-test (eqb w x)
+      (λ e. rw e (omega (arith, length-append ws (replaced x ws s), length-le-replaced s h)))
+      (λ e. rw e (omega (arith, length-le-replaced s h)))
+
+  -- ---- nothing to replace, and nothing left to replace
+
+  pub replaced-none : (s : List ℕ) → count x s ≡ 0 → replaced x ws s ≡ s
+  unfolding replaced image count
+  replaced-none [] h = refl
+  replaced-none (w ∷ s) h =
+      by-test (eqb w x)
+      (λ e. let f : suc (count x s) ≡ 0 = rw e at h in absurd (omega arith))
+      (λ e. rw e (ap (λ (r : List ℕ). w ∷ r) (replaced-none s (rw e at h))))
+
+  pub count-replaced : (s : List ℕ) → count x ws ≡ 0 → count x (replaced x ws s) ≡ 0
+  unfolding replaced image count
+  count-replaced [] h = refl
+  count-replaced (w ∷ s) h =
+      by-test (eqb w x)
+      (λ e. rw e (omega (arith, count-append x ws (replaced x ws s), count-replaced s h)))
+      (λ e. rw (e, e) (count-replaced s h))
+
+  pub replaced-before : (s : List ℕ) → replaced x ws (before x s) ≡ before x s
+  unfolding before
+  replaced-before [] = replaced-nil
+  replaced-before (w ∷ s) =
+      by-test (eqb w x) (λ e. rw e replaced-nil)
+      (λ e. rw (e, replaced-cons, image-other w (eqb-false w x e)) (ap (λ (r : List ℕ). w ∷ r) (replaced-before s)))
+
+-- ---- the words before the first x
+
+module _ (x : ℕ) where
+  pub before-same : (w : ℕ) (s : List ℕ) → w ≡ x → before x (w ∷ s) ≡ []
+  unfolding before
+  before-same w s e = rw (eq-eqb w x e)
+
+  pub before-other : (w : ℕ) (s : List ℕ) → (w ≡ x → ⊥) → before x (w ∷ s) ≡ w ∷ before x s
+  unfolding before
+  before-other w s e = rw (ne-eqb w x e)
+
+  pub length-before : (s : List ℕ) → length (before x s) ≤ length s
+  unfolding before
+  length-before [] = omega arith
+  length-before (w ∷ s) = by-test (eqb w x) (λ e. rw e (omega arith)) (λ e. rw e (omega (arith, length-before s)))
+
+  pub take-before : (s : List ℕ) → take (length (before x s)) s ≡ before x s
+  unfolding before
+  take-before [] = refl
+  take-before (w ∷ s) = by-test (eqb w x) (λ e. rw e) (λ e. rw e (ap (λ (r : List ℕ). w ∷ r) (take-before s)))
+
+  -- where they end before the list does, an x stands
+  pub getD-before : (s : List ℕ) → length (before x s) < length s → getD s (length (before x s)) 0 ≡ x
+  unfolding before
+  getD-before [] h = absurd (omega arith)
+  getD-before (w ∷ s) h =
+      by-test (eqb w x) (λ e. rw e (eqb-true w x e))
+      (λ e. let f : suc (length (before x s)) < suc (length s) = rw e at h in rw e (getD-before s (omega arith)))

@@ -1,0 +1,114 @@
+// Words moved about in one lent room: copied inside it, copied into it from another slice, and copied with each word x
+// replaced by other words of the room.
+//
+// A client's contracts cite `specs/Room.antt` (`seg`, `put`), `specs/Parts.antt` (`Apart`, where the parts of a call lie),
+// `specs/Replaced.antt` and `specs/Fitting.antt`.
+ghost use mathlib.Core.Path.{_≡_};
+ghost use Prim.Native.Nat.{min};
+ghost use lib.ListN.{length};
+ghost use Rattle.room.specs.Room.{seg, put, Within};
+ghost use Rattle.room.specs.Parts.{CopyParts, ReplaceParts};
+ghost use Rattle.room.specs.Replaced.{replaced, before};
+ghost use Rattle.room.specs.Fitting.{fitting, told};
+
+// Copies the n words at `from` to the place `to`.
+pub fn copy(room: &mut [u16], from: usize, n: usize, to: usize)
+    requires { ⌜ CopyParts (now room) from n to ⌝ }
+    ensures { λ _. ⌜ now (room .exit) ≡ put (now (room .entry)) to (seg (now (room .entry)) from n) ⌝ }
+{
+    let mut j = 0;
+    while j < n {
+        room[to + j] = room[from + j];
+        j += 1;
+    }
+}
+
+// Copies all of `words` to the place `to` of the room.
+pub fn copy_in(room: &mut [u16], to: usize, words: &[u16])
+    requires { ⌜ Within (now room) to (length (now words)) ⌝ }
+    ensures { λ _. ⌜ now (room .exit) ≡ put (now (room .entry)) to (now (words .entry)) ⌝ }
+{
+    let mut j = 0;
+    while j < words.len() {
+        room[to + j] = words[j];
+        j += 1;
+    }
+}
+
+// Copies those of the n words at `from` that stand before the first x, and answers how many they are.
+fn copy_before(room: &mut [u16], from: usize, n: usize, x: u16, to: usize) -> usize
+    requires { ⌜ CopyParts (now room) from n to ⌝ }
+    ensures { λ r. ⌜ r ≡ length (before x (seg (now (room .entry)) from n)) ⌝ }
+    ensures { λ _. ⌜ now (room .exit) ≡ put (now (room .entry)) to (before x (seg (now (room .entry)) from n)) ⌝ }
+{
+    let mut run = 0;
+    while run < n {
+        let w = room[from + run];
+        if w == x {
+            return run;
+        }
+        room[to + run] = w;
+        run += 1;
+    }
+    run
+}
+
+fn smaller(a: usize, b: usize) -> usize
+    ensures { λ r. ⌜ r ≡ min a b ⌝ }
+{
+    if a < b { a } else { b }
+}
+
+// The answer of a replacement.
+pub enum Copied {
+    // All is written, in this many words.
+    Done(usize),
+    // The whole is longer than the capacity.
+    Full,
+}
+
+// Copies the n words at `from` to the place `to`, with the m words at `by` for each word x, in at most `capacity` words.
+// Where these do not suffice, what comes before the first word that does not fit is written, and the answer is Full.
+//
+// A run of words that are not x is copied at one go, no longer than the capacity allows, so that a word costs one
+// comparison with x and one with the run's bound. It ends at the last word, at an x, or where the capacity does.
+pub fn replace(
+    room: &mut [u16],
+    from: usize,
+    n: usize,
+    x: u16,
+    by: usize,
+    m: usize,
+    to: usize,
+    capacity: usize,
+) -> Copied
+    requires { ⌜ ReplaceParts (now room) from n by m to capacity ⌝ }
+    ensures { λ r. ⌜ r ≡ told capacity (replaced x (seg (now (room .entry)) by m) (seg (now (room .entry)) from n)) ⌝ }
+    ensures { λ _. ⌜ now (room .exit) ≡ put (now (room .entry)) to (fitting x (seg (now (room .entry)) by m) capacity (seg (now (room .entry)) from n)) ⌝ }
+{
+    let mut read = 0;
+    let mut written = 0;
+    loop {
+        let run = copy_before(
+            room,
+            from + read,
+            smaller(n - read, capacity - written),
+            x,
+            to + written,
+        );
+        read += run;
+        written += run;
+        if n <= read {
+            return Copied::Done(written);
+        }
+        if room[from + read] != x {
+            return Copied::Full;
+        }
+        if capacity - written < m {
+            return Copied::Full;
+        }
+        copy(room, by, m, to + written);
+        read += 1;
+        written += m;
+    }
+}
