@@ -1,0 +1,5 @@
+pub mod DemandTwo
+pub mod Fits
+pub mod Examples
+pub mod Steps
+pub mod Runs

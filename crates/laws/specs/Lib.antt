@@ -1,0 +1,11 @@
+pub mod Laws
+pub mod Equal
+pub mod Alike
+pub mod Members
+pub mod Agree
+pub mod Apart
+pub mod Values
+pub mod Substitution
+pub mod Solving
+pub mod Rank
+pub mod Tails

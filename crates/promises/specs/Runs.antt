@@ -1,0 +1,13 @@
+-- What follows of searches and runs: more lent, same list (`Agreeing`, `Verdicts`, `Lending`); the tree from the root on (`Visiting`, `Tree`); that it
+-- ends (`Measures`, `Ending`, `Completing`); names, the form of answers, sizes.
+pub mod Agreeing
+pub mod Verdicts
+pub mod Lending
+pub mod Visiting
+pub mod Tree
+pub mod Measures
+pub mod Ending
+pub mod Naming
+pub mod Answering
+pub mod Completing
+pub mod Sizes

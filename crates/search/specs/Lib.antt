@@ -1,0 +1,8 @@
+pub mod Ends
+pub mod Lent
+pub mod State
+pub mod Classify
+pub mod Children
+pub mod StepView
+pub mod Run
+pub mod Specimens

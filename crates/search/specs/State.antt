@@ -1,0 +1,43 @@
+-- A state of the search, a node of its tree, and a state's size. Document 01: "A state holds pending equations in order, a pile of postponed
+-- equations, and bindings in the order made."
+use Prim.Native.Nat.{ℕ, _+_, suc}
+use mathlib.Core.List.{List, [], _∷_, _++_}
+use Rattle.terms.specs.Term.{Term, size}
+use Rattle.terms.specs.Formed.{Equation}
+use Rattle.terms.specs.Answers.{Named}
+
+pub record State : Type 0 where
+  pub pending : List Equation
+  pub pile : List Named
+  pub bindings : List Named
+  -- the number of the next new unknown
+  pub next : ℕ
+
+-- a dead end, or a state
+pub data Node : Type 0 where
+  dead : Node
+  live : State → Node
+
+-- the state with these equations pending
+unfoldable pub pend : List Equation → State → State
+pend es s = record { pending = es; pile = s .pile; bindings = s .bindings; next = s .next }
+
+-- the state with X = t at the end of the pile
+unfoldable pub piled : ℕ → Term → State → State
+piled x t s = record { pending = s .pending; pile = s .pile ++ (record { name = x; value = t } ∷ []); bindings = s .bindings; next = s .next }
+
+-- the state with one unknown more in use
+unfoldable pub renewed : State → State
+renewed s = record { pending = s .pending; pile = s .pile; bindings = s .bindings; next = suc (s .next) }
+
+-- the number of symbols on both sides, each binding's unknown counted as one
+unfoldable pub size-equations : List Equation → ℕ
+size-equations [] = 0
+size-equations (e ∷ es) = size (e .left) + size (e .right) + size-equations es
+
+unfoldable pub size-named : List Named → ℕ
+size-named [] = 0
+size-named (n ∷ ns) = suc (size (n .value)) + size-named ns
+
+unfoldable pub state-size : State → ℕ
+state-size s = size-equations (s .pending) + size-named (s .pile) + size-named (s .bindings)

@@ -1,0 +1,23 @@
+-- An unknown and a term beside it: a binding, or an entry of the pile. The words of an answer. Document 01, "How a run ends": an answer is its
+-- number of bindings, then for each the unknown's number and its value.
+use Prim.Native.Nat.{ℕ}
+use mathlib.Core.List.{List, [], _∷_, _++_}
+use lib.ListN.{length}
+use Rattle.terms.specs.Bounds.{Bounds}
+use Rattle.terms.specs.Term.{Term, words}
+
+pub record Named : Type 0 where
+  pub name : ℕ
+  pub value : Term
+
+unfoldable pub binding-words : Bounds → List Named → List ℕ
+binding-words b [] = []
+binding-words b (n ∷ ns) = n .name ∷ (words b (n .value) ++ binding-words b ns)
+
+unfoldable pub answer-words : Bounds → List Named → List ℕ
+answer-words b ns = length ns ∷ binding-words b ns
+
+-- the words of answers one after the other, as the lent buffer holds them
+unfoldable pub listed : List (List ℕ) → List ℕ
+listed [] = []
+listed (l ∷ ls) = l ++ listed ls

@@ -1,0 +1,54 @@
+-- The numbers that bound words, questions and paths: one record of parameters. Every definition that speaks of one of them takes the record,
+-- and `edition-one` has document 01's numbers as its value.
+use Prim.Native.Nat.{ℕ, _+_, _≤_}
+use native.Mathlib.Omega.{arith}
+
+pub record Bounds : Type 0 where
+  -- the word of unknown 0, and how many words from there on count as unknowns
+  pub first-unknown : ℕ
+  pub unknown-words : ℕ
+  -- the word of functor 0, and how many words from there on count as functors
+  pub first-functor : ℕ
+  pub functor-words : ℕ
+  -- how many unknowns a question may have, and how many a path
+  pub unknowns : ℕ
+  pub path-unknowns : ℕ
+  pub functors : ℕ
+  pub arity : ℕ
+  pub equations : ℕ
+  -- the words of a question's terms together, and of the ground terms lent to one call
+  pub symbols : ℕ
+  pub nesting : ℕ
+
+unfoldable pub edition-one : Bounds
+edition-one = record {
+  first-unknown = 1000;
+  unknown-words = 1000;
+  first-functor = 2000;
+  functor-words = 1000;
+  unknowns = 256;
+  path-unknowns = 512;
+  functors = 256;
+  arity = 8;
+  equations = 64;
+  symbols = 4096;
+  nesting = 200;
+}
+
+-- what the laws of words need: no word says two things, and every number in use has its word
+pub record Proper (b : Bounds) : Type 0 where
+  pub after-marks : 2 ≤ b .first-unknown
+  pub before-functors : b .first-unknown + b .unknown-words ≤ b .first-functor
+  pub room-for-unknowns : b .path-unknowns ≤ b .unknown-words
+  pub room-for-functors : b .functors ≤ b .functor-words
+  pub room-on-a-path : b .unknowns ≤ b .path-unknowns
+
+pub edition-one-proper : Proper edition-one
+unfolding edition-one
+edition-one-proper = record {
+  after-marks = omega arith;
+  before-functors = omega arith;
+  room-for-unknowns = omega arith;
+  room-for-functors = omega arith;
+  room-on-a-path = omega arith;
+}

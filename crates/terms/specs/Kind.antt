@@ -1,0 +1,156 @@
+-- What a word stands for, and how many terms follow it. Document 01, "Words and text"; its numbers are those of `Bounds`.
+-- Then the laws: the word of each symbol has its kind, and a kind tells its word.
+use Prim.Native.Nat.{ℕ, _+_, _-_, _<_, _≤_}
+use mathlib.Core.Path.{_≡_, refl}
+use mathlib.Core.List.{List}
+use mathlib.Core.Bool.{Bool, true, false, cond, _&&_}
+use native.Mathlib.Omega.{arith}
+use lib.Dec.{eqb, leb, ltb}
+use lib.ListN.{length, getD}
+use borrow.Author.Tests.{ne-eqb, lt-ltb, le-ltb, le-leb, lt-leb, eqb-true, leb-true, ltb-true}
+use Rattle.terms.specs.Bounds.{Bounds, Proper}
+use Rattle.terms.specs.Lists.{cases, and-left, and-right, and-both}
+
+pub data Kind : Type 0 where
+  of-empty : Kind
+  of-member : Kind
+  of-unknown : ℕ → Kind
+  of-functor : ℕ → Kind
+  of-nothing : Kind
+
+-- is w one of the words from a first one on, so many?
+unfoldable pub within : ℕ → ℕ → ℕ → Bool
+within first many w = leb first w && ltb w (first + many)
+
+unfoldable pub kind : Bounds → ℕ → Kind
+kind b w =
+    cond (eqb w 0) of-empty
+    (cond (eqb w 1) of-member
+    (cond (within (b .first-unknown) (b .unknown-words) w) (of-unknown (w - b .first-unknown))
+    (cond (within (b .first-functor) (b .functor-words) w) (of-functor (w - b .first-functor))
+    of-nothing)))
+
+-- how many terms follow a word: the member and the rest, or the arguments
+unfoldable pub takes : Bounds → List ℕ → ℕ → ℕ
+takes b arities w = cond (eqb w 1) 2 (cond (ltb w (b .first-functor)) 0 (getD arities (w - b .first-functor) 0))
+
+-- ---- a kind tells its word
+
+pub data Means (b : Bounds) (w : ℕ) : Kind → Type 0 where
+  means-empty : w ≡ 0 → Means b w of-empty
+  means-member : w ≡ 1 → Means b w of-member
+  means-unknown : {i : ℕ} → w ≡ b .first-unknown + i → i < b .unknown-words → Means b w (of-unknown i)
+  means-functor : {k : ℕ} → w ≡ b .first-functor + k → k < b .functor-words → Means b w (of-functor k)
+  means-nothing : Means b w of-nothing
+
+within-from : (first many w : ℕ) → within first many w ≡ true → first ≤ w
+unfolding within
+within-from first many w t = leb-true first w (and-left _ _ t)
+
+within-many : (first many w : ℕ) → within first many w ≡ true → w - first < many
+unfolding within
+within-many first many w t =
+    let lo = leb-true first w (and-left _ _ t) in
+    let hi = ltb-true w (first + many) (and-right (leb first w) _ t) in
+    omega arith
+
+pub means : (b : Bounds) (w : ℕ) → Means b w (kind b w)
+unfolding kind
+means b w =
+    cases (eqb w 0) (λ t. rw t (means-empty (eqb-true w 0 t)))
+    (λ s. cases (eqb w 1) (λ t. rw (s, t) (means-member (eqb-true w 1 t)))
+    (λ r. cases (within (b .first-unknown) (b .unknown-words) w)
+    (λ t. rw (s, r, t) (means-unknown {i = w - b .first-unknown} (let lo = within-from (b .first-unknown) (b .unknown-words) w t in omega arith) (within-many _ _ w t)))
+    (λ q. cases (within (b .first-functor) (b .functor-words) w)
+    (λ t. rw (s, r, q, t) (means-functor {k = w - b .first-functor} (let lo = within-from (b .first-functor) (b .functor-words) w t in omega arith) (within-many _ _ w t)))
+    (λ t. rw (s, r, q, t) means-nothing))))
+
+-- ---- the words of symbols
+
+-- every functor of the table and each of the first n unknowns has a word of its own
+pub record Worded (b : Bounds) (arities : List ℕ) (n : ℕ) : Type 0 where
+  pub proper : Proper b
+  pub functors : length arities ≤ b .functor-words
+  pub unknowns : n ≤ b .unknown-words
+
+pub within-first : (first many i : ℕ) → i < many → within first many (first + i) ≡ true
+unfolding within
+within-first first many i h = and-both (le-leb first (first + i) (omega arith)) (lt-ltb (first + i) (first + many) (omega arith))
+
+pub within-before : (first many w : ℕ) → w < first → within first many w ≡ false
+unfolding within
+within-before first many w h = rw (lt-leb first w h)
+
+pub within-after : (first many w : ℕ) → first + many ≤ w → within first many w ≡ false
+unfolding within
+within-after first many w h = rw (le-leb first w (omega arith), le-ltb w (first + many) h)
+
+module _ {b : Bounds} (proper : Proper b) where
+  pub kind-unknown : (i : ℕ) → i < b .unknown-words → kind b (b .first-unknown + i) ≡ of-unknown i
+  unfolding kind
+  kind-unknown i h =
+      let e : b .first-unknown + i - b .first-unknown ≡ i = omega arith in
+      rw (ne-eqb (b .first-unknown + i) 0 (λ e. omega arith), ne-eqb (b .first-unknown + i) 1 (λ e. omega arith), within-first (b .first-unknown) (b .unknown-words) i h, e)
+
+  pub kind-functor : (k : ℕ) → k < b .functor-words → kind b (b .first-functor + k) ≡ of-functor k
+  unfolding kind
+  kind-functor k h =
+      let e : b .first-functor + k - b .first-functor ≡ k = omega arith in
+      rw (
+        ne-eqb (b .first-functor + k) 0 (λ e. omega arith),
+        ne-eqb (b .first-functor + k) 1 (λ e. omega arith),
+        within-after (b .first-unknown) (b .unknown-words) (b .first-functor + k) (omega arith),
+        within-first (b .first-functor) (b .functor-words) k h,
+        e,
+      )
+
+  -- the same of a word that lies between the marks
+  module _ (w : ℕ) (h : 2 ≤ w) where
+    pub kind-low : w < b .first-unknown → kind b w ≡ of-nothing
+    unfolding kind
+    kind-low l =
+        rw (
+          ne-eqb w 0 (λ e. omega arith),
+          ne-eqb w 1 (λ e. omega arith),
+          within-before (b .first-unknown) (b .unknown-words) w l,
+          within-before (b .first-functor) (b .functor-words) w (omega arith),
+        )
+
+    pub kind-high : b .first-functor + b .functor-words ≤ w → kind b w ≡ of-nothing
+    unfolding kind
+    kind-high l =
+        rw (
+          ne-eqb w 0 (λ e. omega arith),
+          ne-eqb w 1 (λ e. omega arith),
+          within-after (b .first-unknown) (b .unknown-words) w (omega arith),
+          within-after (b .first-functor) (b .functor-words) w l,
+        )
+
+  pub kind-of-unknown : (w : ℕ) → b .first-unknown ≤ w → w < b .first-unknown + b .unknown-words → kind b w ≡ of-unknown (w - b .first-unknown)
+  kind-of-unknown w l m =
+      let e : b .first-unknown + (w - b .first-unknown) ≡ w = omega arith in
+      rw e at (kind-unknown (w - b .first-unknown) (omega arith))
+
+  pub kind-of-functor : (w : ℕ) → b .first-functor ≤ w → w < b .first-functor + b .functor-words → kind b w ≡ of-functor (w - b .first-functor)
+  kind-of-functor w l m =
+      let e : b .first-functor + (w - b .first-functor) ≡ w = omega arith in
+      rw e at (kind-functor (w - b .first-functor) (omega arith))
+
+  module _ (arities : List ℕ) where
+    pub takes-empty : takes b arities 0 ≡ 0
+    unfolding takes
+    takes-empty = rw (lt-ltb 0 (b .first-functor) (omega arith))
+
+    pub takes-member : takes b arities 1 ≡ 2
+    unfolding takes
+    takes-member = refl
+
+    pub takes-unknown : (i : ℕ) → i < b .unknown-words → takes b arities (b .first-unknown + i) ≡ 0
+    unfolding takes
+    takes-unknown i h = rw (ne-eqb (b .first-unknown + i) 1 (λ e. omega arith), lt-ltb (b .first-unknown + i) (b .first-functor) (omega arith))
+
+    pub takes-functor : (k : ℕ) → takes b arities (b .first-functor + k) ≡ getD arities k 0
+    unfolding takes
+    takes-functor k =
+        let e : b .first-functor + k - b .first-functor ≡ k = omega arith in
+        rw (ne-eqb (b .first-functor + k) 1 (λ e. omega arith), le-ltb (b .first-functor + k) (b .first-functor) (omega arith), e)

@@ -1,0 +1,48 @@
+-- Words read back by what is due, as the check walks them: terms, then the bindings of the answer at hand, then answers. The reading of a list of
+-- answers; of terms alone it is `Reading`'s. When bindings and lists are formed.
+use Prim.Native.Nat.{ℕ, zero, suc, _+_, _<_}
+use mathlib.Core.List.{List, [], _∷_, map}
+use lib.ListN.{drop}
+use Rattle.terms.specs.Answers.{Named, answer-words, listed}
+use Rattle.terms.specs.Bounds.{Bounds}
+use Rattle.terms.specs.Kind.{kind, takes}
+use Rattle.terms.specs.Term.{Term}
+use Rattle.terms.specs.Formed.{Formed}
+use Rattle.terms.specs.Reading.{top, push}
+
+-- a binding is formed: its unknown is one of the first n, and its value is formed
+pub record Bound (arities : List ℕ) (n : ℕ) (x : Named) : Type 0 where
+  pub name : x .name < n
+  pub value : Formed arities n (x .value)
+
+-- the words of a list of answers
+unfoldable pub list-words : Bounds → List (List Named) → List ℕ
+list-words b l = listed (map (answer-words b) l)
+
+pub record Parts : Type 0 where
+  pub terms : List Term
+  pub bindings : List Named
+  pub answers : List (List Named)
+
+unfoldable pub nothing : Parts
+nothing = record { terms = []; bindings = []; answers = [] }
+
+-- the parts with one word in front: a word of a term, a binding's unknown, or an answer's number of bindings
+unfoldable pub term-word : Bounds → List ℕ → ℕ → Parts → Parts
+term-word b arities w r = record { terms = push arities (kind b w) (r .terms); bindings = r .bindings; answers = r .answers }
+
+unfoldable pub name-word : ℕ → Parts → Parts
+name-word w r = record { terms = drop 1 (r .terms); bindings = record { name = w; value = top (r .terms) } ∷ r .bindings; answers = r .answers }
+
+unfoldable pub count-word : Parts → Parts
+count-word r = record { terms = r .terms; bindings = []; answers = r .bindings ∷ r .answers }
+
+unfoldable pub parts : Bounds → List ℕ → List ℕ → (answers bindings terms : ℕ) → Parts
+parts b arities [] answers bindings terms = nothing
+parts b arities (w ∷ ws) answers bindings (suc terms) = term-word b arities w (parts b arities ws answers bindings (terms + takes b arities w))
+parts b arities (w ∷ ws) answers (suc bindings) zero = name-word w (parts b arities ws answers bindings 1)
+parts b arities (w ∷ ws) (suc answers) zero zero = count-word (parts b arities ws answers w 0)
+parts b arities (w ∷ ws) zero zero zero = nothing
+
+unfoldable pub answers-of : Bounds → (arities : List ℕ) (answers : ℕ) → List ℕ → List (List Named)
+answers-of b arities answers ws = parts b arities ws answers 0 0 .answers

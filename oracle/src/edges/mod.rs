@@ -1,0 +1,42 @@
+//! Cases written by hand from document 01, with the results that it asks for: every refusal and its places,
+//! the ends of a run, and the points where the paper was read with care.
+
+mod ends;
+mod ground;
+mod reading;
+mod running;
+mod writing;
+
+/// A case with the result that the paper asks for, and why.
+pub struct Edge {
+    pub why: &'static str,
+    pub case: String,
+    pub result: String,
+}
+
+pub fn edges() -> Vec<Edge> {
+    let mut edges = Vec::new();
+    reading::edges(&mut edges);
+    ends::edges(&mut edges);
+    running::edges(&mut edges);
+    writing::edges(&mut edges);
+    ground::edges(&mut edges);
+    edges
+}
+
+fn add(edges: &mut Vec<Edge>, why: &'static str, case: String, result: &str) {
+    edges.push(Edge {
+        why,
+        case,
+        result: result.to_string(),
+    });
+}
+
+/// Comma separated words, each given as a word and how often it stands.
+fn words(runs: &[(u16, usize)]) -> String {
+    let mut words = Vec::new();
+    for &(word, count) in runs {
+        words.resize(words.len() + count, word);
+    }
+    crate::cases::joined(&words)
+}

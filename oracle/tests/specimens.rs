@@ -1,0 +1,163 @@
+//! Document 01's specimens, the program `solve`, and the entries' refusals that no case of the driver reaches.
+
+use oracle::search::{room_needed, run, search, Loan};
+use oracle::solve::solve;
+use oracle::terms::{Question, Refusal};
+use oracle::text::reader::{read, read_into};
+
+/// f0, f1, f2 are a, b, c; f3 is g with one argument.
+fn asked(unknowns: u32, equations: &[(&str, &str)]) -> Question {
+    let mut text = format!(
+        "edition=1\nunknowns={unknowns}\narities=0,0,0,1\nequations={}\n",
+        equations.len()
+    );
+    for (left, right) in equations {
+        text.push_str(&format!("left={left}\nright={right}\n"));
+    }
+    read(text.as_bytes()).expect("a good question")
+}
+
+const WIDE: Loan = Loan {
+    steps: 100_000,
+    depth: 96,
+    size: 256,
+    space: 4096,
+};
+
+#[test]
+fn a_tail_in_itself() {
+    let outcome = search(&asked(1, &[("x0", "{f0|x0}")]), &WIDE);
+    assert_eq!((outcome.end, outcome.visited, outcome.answers), (0, 3, 1));
+    assert_eq!(outcome.words, [1, 0, 1, 2000, 1001]);
+}
+
+#[test]
+fn one_tail_on_both_sides() {
+    let outcome = search(&asked(1, &[("{f0|x0}", "{f1|x0}")]), &WIDE);
+    assert_eq!((outcome.end, outcome.visited, outcome.answers), (0, 9, 1));
+    assert_eq!(outcome.words, [1, 0, 1, 2000, 1, 2001, 1001]);
+}
+
+#[test]
+fn no_set_and_no_functor_holds_itself() {
+    for right in ["{x0}", "f3(x0)"] {
+        let outcome = search(&asked(1, &[("x0", right)]), &WIDE);
+        assert_eq!((outcome.end, outcome.visited, outcome.answers), (0, 2, 0));
+    }
+}
+
+#[test]
+fn no_equation() {
+    let outcome = search(&asked(1, &[]), &WIDE);
+    assert_eq!((outcome.end, outcome.visited), (0, 1));
+    assert_eq!(outcome.words, [0]);
+}
+
+#[test]
+fn two_unknown_members() {
+    let outcome = search(&asked(2, &[("{x0,x1}", "{f0,f1}")]), &WIDE);
+    assert_eq!((outcome.end, outcome.answers), (0, 2));
+    let listed = [2, 0, 2000, 1, 2001, 2, 0, 2001, 1, 2000];
+    assert_eq!(outcome.words, listed);
+}
+
+#[test]
+fn one_less_of_one_of_them() {
+    let question = asked(1, &[("x0", "{f0|x0}")]);
+    let least = Loan {
+        steps: 3,
+        depth: 2,
+        size: 4,
+        space: 5,
+    };
+    assert_eq!(search(&question, &least).end, 0);
+    for (loan, end, visited) in [
+        (Loan { steps: 2, ..least }, 20, 2),
+        (Loan { depth: 1, ..least }, 21, 2),
+        (Loan { size: 3, ..least }, 22, 0),
+        (Loan { space: 4, ..least }, 23, 3),
+    ] {
+        let outcome = search(&question, &loan);
+        assert_eq!(
+            (outcome.end, outcome.visited, outcome.answers),
+            (end, visited, 0)
+        );
+    }
+}
+
+#[test]
+fn the_program_prints_the_specimen() {
+    let text = "edition=1\nunknowns=1\narities=0\nequations=1\nleft=x0\nright={f0|x0}\n";
+    let list = "edition=1\nend=done\nvisited=3\nanswers=1\nbindings=1\nunknown=0\nvalue={f0|x1}\n";
+    assert_eq!(solve(text.as_bytes()), list.as_bytes());
+    assert_eq!(solve(b""), b"refused=1\nplace=0\n");
+    assert_eq!(solve(b"edition=2\n"), b"refused=3\nplace=8\n");
+}
+
+/// x1 has 25 brackets and is put inside 180 more: the answer cannot be written, and the writer says where.
+#[test]
+fn the_program_tells_the_writers_refusal() {
+    let nested = |depth, inside| format!("{}{inside}{}", "f0(".repeat(depth), ")".repeat(depth));
+    let text = format!(
+        "edition=1\nunknowns=3\narities=1\nequations=2\nleft=x1\nright={}\nleft=x0\nright={}\n",
+        nested(25, "x2"),
+        nested(180, "x1")
+    );
+    // The count, x1's line of 1 + 26 words, x0's number, then the words of 200 brackets.
+    let place = 1 + 27 + 1 + 200;
+    let refused = format!("refused=6\nplace={place}\n");
+    assert_eq!(solve(text.as_bytes()), refused.as_bytes());
+}
+
+/// At most 32,768 bytes are read; a fault before that is told as ever.
+#[test]
+fn the_program_reads_no_more_than_it_must() {
+    let start = "edition=1\nunknowns=1\narities=\nequations=1\nleft=x";
+    let text = format!("{start}{}", "1".repeat(40_000));
+    let refused = format!("refused=3\nplace={}\n", start.len());
+    assert_eq!(solve(text.as_bytes()), refused.as_bytes());
+}
+
+#[test]
+fn the_reader_tests_the_arities_buffer_first() {
+    let text = b"edition=1\nunknowns=1\narities=0,1\nequations=1\nleft=x0\nright={f0|x0}\n";
+    assert!(read_into(text, 2, 4).is_ok());
+    let seven = |place| Err(Refusal { number: 7, place });
+    assert_eq!(read_into(text, 1, 0), seven(2));
+    assert_eq!(read_into(text, 2, 3), seven(4));
+    assert_eq!(
+        read_into(b"x", 0, 0),
+        Err(Refusal {
+            number: 1,
+            place: 0
+        })
+    );
+}
+
+#[test]
+fn a_run_tests_limits_then_question_then_room() {
+    let mut question = asked(1, &[("x0", "{f0|x0}")]);
+    let loan = Loan {
+        steps: 9,
+        depth: 2,
+        size: 4,
+        space: 5,
+    };
+    assert_eq!(room_needed(&loan), 120);
+    assert!(run(&question, &loan, 120).is_ok());
+    let refused = |number, place| Err(Refusal { number, place });
+    assert_eq!(run(&question, &loan, 119), refused(7, 120));
+    question.words.push(0);
+    assert_eq!(run(&question, &loan, 0), refused(8, 4));
+    assert_eq!(
+        run(
+            &question,
+            &Loan {
+                depth: 1025,
+                ..loan
+            },
+            0
+        ),
+        refused(3, 0)
+    );
+}
