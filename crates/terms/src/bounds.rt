@@ -24,3 +24,6 @@ pub const ARITY: u8 = 8;
 pub const EQUATIONS: usize = 64;
 
 pub const SYMBOLS: usize = 4096;
+
+// the most brackets that may be open in a text
+pub const NESTING: usize = 200;

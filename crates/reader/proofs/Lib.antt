@@ -1,0 +1,5 @@
+pub mod Headings
+pub mod Lines
+pub mod Sides
+pub mod Laying
+pub mod Buffers

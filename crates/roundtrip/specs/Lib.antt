@@ -1,0 +1,10 @@
+pub mod Suffix
+pub mod Decimals
+pub mod Names
+pub mod TermText
+pub mod LineText
+pub mod QuestionText
+pub mod Spans
+pub mod TermSpans
+pub mod Counted
+pub mod QuestionSpans

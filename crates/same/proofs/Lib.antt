@@ -1,0 +1,11 @@
+pub mod Writing
+pub mod Words
+pub mod Scanning
+pub mod Meeting
+pub mod Matching
+pub mod Arguing
+pub mod Comparing
+pub mod Holds
+pub mod Started
+pub mod Asking
+pub mod Entering

@@ -1,0 +1,23 @@
+use mathlib.Core.Path.{_∙_}
+use Rattle.same.proofs.Asking.{asked-standings, asked-equations, asked-holding}
+use Rattle.same.proofs.hold.values_hold.Statement.{statement}
+use Rattle.same.proofs.hold.values_hold.Tie as tie
+
+place-values-requires : tie.Need-place-values-requires
+place-values-requires c κs = asked-standings (c .before .before .before .before .before .pre .0)
+
+all-hold-requires : tie.Need-all-hold-requires
+all-hold-requires c κs = asked-equations (c .before .before .before .before .before .before .before .before .before .before .pre .0) (c .before .before .before .before .place-values .ensures) (c .before .before .before .before .before .before .before .before .before .before .pre .1)
+
+same-length : tie.Need-same-length
+same-length c = c .before .before .before .before .before .before .before .place-values .kept .1 .1 .1 .0
+
+same-length-2 : tie.Need-same-length-2
+same-length-2 c = c .before .before .all-hold .kept .1 .1 .1 .0
+
+returns : tie.Need-returns
+returns c = c .before .before .all-hold .ensures ∙ asked-holding (c .before .before .before .before .before .before .before .before .before .before .before .before .before .pre .0) (c .before .before .before .before .before .before .before .place-values .ensures)
+
+pub values-hold-spec : {M : Type 1} → statement M
+values-hold-spec =
+    tie.close (tie.spec place-values-requires all-hold-requires same-length same-length-2 returns)

@@ -1,0 +1,5 @@
+pub mod Lined
+pub mod Questions
+pub mod Listings
+pub mod Answering
+pub mod AnswerLists
