@@ -1,0 +1,91 @@
+-- What the tests of the code tell of an equation's step.
+use Prim.Native.Nat.{ℕ, _+_, _≤_}
+use mathlib.Core.Path.{_≡_, refl, sym, ap, _∙_}
+use mathlib.Core.List.{List}
+use mathlib.Core.Bool.{Bool, true, false, cond, _&&_, not}
+use native.Mathlib.Omega.{arith}
+use lib.Dec.{eqb}
+use lib.ListN.{length, take, getD}
+use borrow.Author.Tests.{eq-eqb, ne-eqb}
+use Rattle.terms.specs.Bounds.{edition-one}
+use Rattle.terms.specs.Kind.{within}
+use Rattle.search.specs.declared.steps.Tails.{Tails}
+use Rattle.search.specs.declared.steps.Tails.the-variants.{Neither, Left, Right, Different, Same}
+use Rattle.search.specs.declared.steps.Step.{Step}
+use Rattle.search.specs.declared.steps.Step.the-variants.{Drop, Bind, Postpone, Decompose, Split, Dead}
+use Rattle.search.specs.Classify.{tails-by, meet-by}
+use Rattle.rows.specs.Flat.{holds}
+use Rattle.rows.specs.Stripped.{kernel-at, stripped-within}
+use Rattle.rows.specs.Stepping.{unknown-word, tails-of, kernel-word, meet-words, compare-words, step-by, step-of}
+
+pub tails-told : (l r : ℕ) {a c d : Bool} → within 1000 1000 l ≡ a → within 1000 1000 r ≡ c → eqb l r ≡ d → tails-by a c d ≡ tails-of edition-one l r
+unfolding tails-of unknown-word edition-one
+tails-told l r p q s = rw (p, q, s)
+
+pub kernel-within : (arities ws : List ℕ) → kernel-at edition-one arities ws ≤ length ws
+kernel-within arities ws = omega (arith, stripped-within edition-one arities ws 0 0)
+
+module _ (arities : List ℕ) (x : ℕ) (ws : List ℕ) (k : Tails) where
+  pub met-nowhere : holds x ws ≡ false → Bind k ≡ meet-words edition-one arities x ws k
+  unfolding meet-words meet-by
+  met-nowhere p = rw p
+
+  module _ (p : holds x ws ≡ true) where
+    pub met-elsewhere : (kernel-word edition-one arities ws ≡ x → ⊥) → Dead ≡ meet-words edition-one arities x ws k
+    unfolding meet-words meet-by
+    met-elsewhere d = rw (p, ne-eqb (kernel-word edition-one arities ws) x d)
+
+    pub met-inside : kernel-word edition-one arities ws ≡ x → holds x (take (kernel-at edition-one arities ws) ws) ≡ true → Dead ≡ meet-words edition-one arities x ws k
+    unfolding meet-words meet-by
+    met-inside e q = rw (p, eq-eqb (kernel-word edition-one arities ws) x e, q)
+
+    pub met-last : kernel-word edition-one arities ws ≡ x → holds x (take (kernel-at edition-one arities ws) ws) ≡ false → Postpone k ≡ meet-words edition-one arities x ws k
+    unfolding meet-words meet-by
+    met-last e q = rw (p, eq-eqb (kernel-word edition-one arities ws) x e, q)
+
+module _ (arities left right : List ℕ) where
+  pub compared-apart : (getD left 0 0 ≡ getD right 0 0 → ⊥) → Dead ≡ compare-words edition-one arities left right
+  unfolding compare-words
+  compared-apart d = rw (ne-eqb (getD left 0 0) (getD right 0 0) d)
+
+  module _ (e : getD left 0 0 ≡ getD right 0 0) where
+    pub compared-empty : getD left 0 0 ≡ 0 → Drop ≡ compare-words edition-one arities left right
+    unfolding compare-words
+    compared-empty z = rw (eq-eqb (getD left 0 0) (getD right 0 0) e, eq-eqb (getD left 0 0) 0 z)
+
+    pub compared-sets : (getD left 0 0 ≡ 0 → ⊥) → getD left 0 0 ≡ 1
+        → Split (tails-of edition-one (kernel-word edition-one arities left) (kernel-word edition-one arities right)) ≡ compare-words edition-one arities left right
+    unfolding compare-words
+    compared-sets z o = rw (eq-eqb (getD left 0 0) (getD right 0 0) e, ne-eqb (getD left 0 0) 0 z, eq-eqb (getD left 0 0) 1 o)
+
+    pub compared-functors : (getD left 0 0 ≡ 0 → ⊥) → (getD left 0 0 ≡ 1 → ⊥) → Decompose ≡ compare-words edition-one arities left right
+    unfolding compare-words
+    compared-functors z o = rw (eq-eqb (getD left 0 0) (getD right 0 0) e, ne-eqb (getD left 0 0) 0 z, ne-eqb (getD left 0 0) 1 o)
+
+  -- the two first words, and whether they are unknowns'
+  module _ {l r : ℕ} (el : l ≡ getD left 0 0) (er : r ≡ getD right 0 0) where
+    step-told : {a c : Bool} → within 1000 1000 l ≡ a → within 1000 1000 r ≡ c → step-by a c edition-one arities left right ≡ step-of edition-one arities left right
+    unfolding step-of unknown-word edition-one
+    step-told p q = rw (← el, ← er, p, q)
+
+    module _ (p : within 1000 1000 l ≡ true) where
+      pub two-same : within 1000 1000 r ≡ true → l ≡ r → Drop ≡ step-of edition-one arities left right
+      unfolding step-by
+      two-same q e = rw (eq-eqb (getD left 0 0) (getD right 0 0) (sym el ∙ e ∙ er)) at (step-told p q)
+
+      pub two-different : within 1000 1000 r ≡ true → (l ≡ r → ⊥) → Bind Different ≡ step-of edition-one arities left right
+      unfolding step-by
+      two-different q d = rw (ne-eqb (getD left 0 0) (getD right 0 0) (λ e. d (el ∙ e ∙ sym er))) at (step-told p q)
+
+      pub left-met : within 1000 1000 r ≡ false → meet-words edition-one arities l right (tails-of edition-one l (kernel-word edition-one arities right)) ≡ step-of edition-one arities left right
+      unfolding step-by
+      left-met q = rw el (step-told p q)
+
+    module _ (p : within 1000 1000 l ≡ false) where
+      pub right-met : within 1000 1000 r ≡ true → meet-words edition-one arities r left (tails-of edition-one (kernel-word edition-one arities left) r) ≡ step-of edition-one arities left right
+      unfolding step-by
+      right-met q = rw er (step-told p q)
+
+      pub none-met : within 1000 1000 r ≡ false → compare-words edition-one arities left right ≡ step-of edition-one arities left right
+      unfolding step-by
+      none-met q = step-told p q

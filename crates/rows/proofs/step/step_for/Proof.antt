@@ -1,0 +1,104 @@
+use Rattle.rows.proofs.Steps.{two-same, two-different, left-met, right-met, none-met}
+use mathlib.Core.Path.{_≡_, refl, sym, _∙_}
+use native.Mathlib.Omega.{arith}
+use borrow.Author.Needs.{needs}
+use Rattle.rows.proofs.step.step_for.Statement.{statement}
+use Rattle.rows.proofs.step.step_for.Tie as tie
+use Rattle.rows.proofs.step.step_for.Reads as reads
+use Rattle.rows.proofs.step.step_for.Lts as lts
+use Rattle.rows.proofs.step.compare.Reads as compare-reads
+use Rattle.rows.proofs.step.meet.Reads as meet-reads
+use Rattle.rows.proofs.step.tails_by_words.Reads as tails-by-words-reads
+use Rattle.rows.proofs.step.word_at.Reads as word-at-reads
+use Rattle.rows.proofs.step.word_of_kernel.Reads as word-of-kernel-reads
+use Rattle.rows.proofs.walk.is_unknown.Reads as is-unknown-reads
+
+-- src/step.rt:87:9
+word-at-requires : tie.Need-word-at-requires
+word-at-requires c κs = search needs
+
+-- src/step.rt:88:9
+word-at-requires-2 : tie.Need-word-at-requires-2
+word-at-requires-2 c κs = search needs
+
+-- src/step.rt:89:8
+is-unknown-requires : tie.Need-is-unknown-requires
+is-unknown-requires c κs = search needs
+
+-- src/step.rt:90:12
+is-unknown-requires-2 : tie.Need-is-unknown-requires-2
+is-unknown-requires-2 c κs = search needs
+
+-- src/step.rt:92:17
+returns : tie.Need-returns
+returns c = two-same _ _ _ (c .before .before .before .before .before .before .word-at .ensures) (c .before .before .before .before .before .word-at2 .ensures) (sym (c .before .before .before .before .is-unknown .ensures) ∙ c .before .before .before .if1 .taken) (sym (c .before .before .is-unknown2 .ensures) ∙ c .before .if2 .taken) (c .if3 .taken)
+
+-- src/step.rt:94:13
+returns-2 : tie.Need-returns-2
+returns-2 c = two-different _ _ _ (c .before .before .before .before .before .before .word-at .ensures) (c .before .before .before .before .before .word-at2 .ensures) (sym (c .before .before .before .before .is-unknown .ensures) ∙ c .before .before .before .if1 .taken) (sym (c .before .before .is-unknown2 .ensures) ∙ c .before .if2 .taken) (c .if3 .left)
+
+-- src/step.rt:96:58
+word-of-kernel-requires : tie.Need-word-of-kernel-requires
+word-of-kernel-requires c κs = search needs
+
+-- src/step.rt:96:40
+tails-by-words-requires : tie.Need-tails-by-words-requires
+tails-by-words-requires c κs = search needs
+
+-- src/step.rt:96:9
+meet-requires : tie.Need-meet-requires
+meet-requires c κs = search needs
+
+-- src/step.rt:96:9
+returns-3 : tie.Need-returns-3
+returns-3 c = c .meet .ensures ∙ rw (c .before .tails-by-words .ensures, c .before .before .word-of-kernel .ensures) (left-met _ _ _ (c .before .before .before .before .before .before .before .before .word-at .ensures) (c .before .before .before .before .before .before .before .word-at2 .ensures) (sym (c .before .before .before .before .before .before .is-unknown .ensures) ∙ c .before .before .before .before .before .if1 .taken) (sym (c .before .before .before .before .is-unknown2 .ensures) ∙ c .before .before .before .if2 .left))
+
+-- src/step.rt:98:8
+is-unknown-requires-3 : tie.Need-is-unknown-requires-3
+is-unknown-requires-3 c κs = search needs
+
+-- src/step.rt:99:54
+word-of-kernel-requires-2 : tie.Need-word-of-kernel-requires-2
+word-of-kernel-requires-2 c κs = search needs
+
+-- src/step.rt:99:39
+tails-by-words-requires-2 : tie.Need-tails-by-words-requires-2
+tails-by-words-requires-2 c κs = search needs
+
+-- src/step.rt:99:9
+meet-requires-2 : tie.Need-meet-requires-2
+meet-requires-2 c κs = search needs
+
+-- src/step.rt:99:9
+returns-4 : tie.Need-returns-4
+returns-4 c = c .meet2 .ensures ∙ rw (c .before .tails-by-words2 .ensures, c .before .before .word-of-kernel2 .ensures) (right-met _ _ _ (c .before .before .before .before .before .before .before .before .word-at .ensures) (c .before .before .before .before .before .before .before .word-at2 .ensures) (sym (c .before .before .before .before .before .before .is-unknown .ensures) ∙ c .before .before .before .before .before .if1 .left) (sym (c .before .before .before .before .is-unknown3 .ensures) ∙ c .before .before .before .if4 .taken))
+
+-- src/step.rt:101:5
+compare-requires : tie.Need-compare-requires
+compare-requires c κs = search needs
+
+-- src/step.rt:83:1
+returns-5 : tie.Need-returns-5
+returns-5 c = c .compare .ensures ∙ none-met _ _ _ (c .before .before .before .before .before .before .word-at .ensures) (c .before .before .before .before .before .word-at2 .ensures) (sym (c .before .before .before .before .is-unknown .ensures) ∙ c .before .before .before .if1 .left) (sym (c .before .before .is-unknown3 .ensures) ∙ c .before .if4 .left)
+
+pub step-for-spec : {M : Type 1} → statement M
+step-for-spec =
+    tie.close
+    (tie.spec
+    word-at-requires
+    word-at-requires-2
+    is-unknown-requires
+    is-unknown-requires-2
+    returns
+    returns-2
+    word-of-kernel-requires
+    tails-by-words-requires
+    meet-requires
+    returns-3
+    is-unknown-requires-3
+    word-of-kernel-requires-2
+    tails-by-words-requires-2
+    meet-requires-2
+    returns-4
+    compare-requires
+    returns-5)

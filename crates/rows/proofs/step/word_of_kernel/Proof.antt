@@ -1,0 +1,26 @@
+use Rattle.rows.specs.Stepping.{kernel-word}
+use mathlib.Core.Path.{_≡_, refl, sym, _∙_}
+use native.Mathlib.Omega.{arith}
+use borrow.Author.Needs.{needs}
+use Rattle.rows.proofs.step.word_of_kernel.Statement.{statement}
+use Rattle.rows.proofs.step.word_of_kernel.Tie as tie
+use Rattle.rows.proofs.step.word_of_kernel.Reads as reads
+use Rattle.rows.proofs.step.word_of_kernel.Lts as lts
+use Rattle.rows.proofs.step.word_at.Reads as word-at-reads
+use Rattle.rows.proofs.walk.place_of_kernel.Reads as place-of-kernel-reads
+
+-- src/step.rt:25:20
+place-of-kernel-requires : tie.Need-place-of-kernel-requires
+place-of-kernel-requires c κs = search needs
+
+-- src/step.rt:25:5
+word-at-requires : tie.Need-word-at-requires
+word-at-requires c κs = search needs
+
+-- src/step.rt:21:1
+returns : tie.Need-returns
+unfolding kernel-word
+returns c = rw (c .before .place-of-kernel .ensures) at (c .word-at .ensures)
+
+pub word-of-kernel-spec : {M : Type 1} → statement M
+word-of-kernel-spec = tie.close (tie.spec place-of-kernel-requires word-at-requires returns)

@@ -1,0 +1,20 @@
+use borrow.Author.Tests.{le-leb, lt-leb}
+use Rattle.terms.specs.Kind.{within}
+use borrow.Author.Needs.{needs}
+use Rattle.rows.proofs.walk.is_unknown.Statement.{statement}
+use Rattle.rows.proofs.walk.is_unknown.Tie as tie
+use Rattle.rows.proofs.walk.is_unknown.Reads as reads
+use Rattle.rows.proofs.walk.is_unknown.Lts as lts
+
+-- src/walk.rt:20:1
+returns : tie.Need-returns
+unfolding within
+returns c = rw (le-leb 1000 (c .before .args .word) (c .if1 .taken))
+
+-- src/walk.rt:20:1
+returns-2 : tie.Need-returns-2
+unfolding within
+returns-2 c = rw (lt-leb 1000 (c .before .args .word) (c .if1 .left))
+
+pub is-unknown-spec : {M : Type 1} → statement M
+is-unknown-spec = tie.close (tie.spec returns returns-2)

@@ -1,0 +1,77 @@
+-- What a child's row has after its new equations, where x is bound to the m words at a place: the rest of the pending equations and the released
+-- entries, the other entries, each with x replaced; then the bindings, and x's number with its value. Last, where these parts of the room lie.
+use Prim.Native.Nat.{ℕ, suc, _+_, _-_, _*_, _^_, _≤_, _<_}
+use mathlib.Core.Path.{_≡_, refl, sym, ap, _∙_}
+use mathlib.Core.List.{List, [], _∷_, _++_}
+use native.Mathlib.Omega.{arith}
+use lib.ListN.{length}
+use Rattle.room.specs.Room.{seg, Within}
+use Rattle.room.specs.Parts.{Apart, ReplaceParts, CopyParts, apart-part}
+use Rattle.room.specs.Replaced.{replaced}
+use Rattle.terms.specs.Bounds.{Bounds}
+use Rattle.rows.specs.declared.bind.Rest.{Rest}
+use Rattle.rows.specs.declared.pile.Part.the-variants.{Entries, Others}
+use Rattle.rows.specs.Pile.{selection}
+
+unfoldable pub pending-piece : Bounds → (arities room : List ℕ) → Rest → (x by m : ℕ) → List ℕ
+pending-piece b arities r rest x by m =
+    replaced x (seg r by m) (seg r (rest .at) (rest .pending))
+    ++ replaced x (seg r by m) (selection b arities Entries x (seg r (rest .at + rest .pending) (rest .pile)))
+
+unfoldable pub pile-piece : Bounds → (arities room : List ℕ) → Rest → (x by m : ℕ) → List ℕ
+pile-piece b arities r rest x by m = replaced x (seg r by m) (selection b arities Others x (seg r (rest .at + rest .pending) (rest .pile)))
+
+unfoldable pub last-piece : (room : List ℕ) → Rest → (x by m : ℕ) → List ℕ
+last-piece r rest x by m = seg r (rest .at + rest .pending + rest .pile) (rest .bound) ++ ((x - 1000) ∷ seg r by m)
+
+-- all of them
+unfoldable pub bound-piece : Bounds → (arities room : List ℕ) → Rest → (x by m : ℕ) → List ℕ
+bound-piece b arities r rest x by m = pending-piece b arities r rest x by m ++ (pile-piece b arities r rest x by m ++ last-piece r rest x by m)
+
+-- the rest of a row, the words at by, and what is written
+pub record BindParts (l : List ℕ) (rest : Rest) (by m to capacity : ℕ) : Type 0 where
+  pub rest-within : Within l (rest .at) (rest .pending + rest .pile + rest .bound)
+  pub by-within : Within l by m
+  pub to-within : Within l to capacity
+  pub rest-apart : Apart (rest .at) (rest .pending + rest .pile + rest .bound) to capacity
+  pub by-apart : Apart by m to capacity
+  pub small : length l < 2 ^ 32
+
+module _ {l : List ℕ} {rest : Rest} {by m to capacity : ℕ} (P : BindParts l rest by m to capacity) where
+  -- a part of what is written to
+  pub bind-part : (r : List ℕ) → length r ≡ length l → (k : ℕ) → k ≤ capacity → BindParts r rest by m (to + k) (capacity - k)
+  bind-part r e k h = record {
+    rest-within = rw e (P .rest-within);
+    by-within = rw e (P .by-within);
+    to-within = rw e (omega (arith, P .to-within));
+    rest-apart = apart-part (P .rest-apart) (omega arith) (omega arith) (omega arith) (omega arith);
+    by-apart = apart-part (P .by-apart) (omega arith) (omega arith) (omega arith) (omega arith);
+    small = rw e (P .small);
+  }
+
+  pub pending-parts : ReplaceParts l (rest .at) (rest .pending) by m to capacity
+  pending-parts = record {
+    from-within = omega (arith, P .rest-within);
+    by-within = P .by-within;
+    to-within = P .to-within;
+    from-apart = apart-part (P .rest-apart) (omega arith) (omega arith) (omega arith) (omega arith);
+    by-apart = P .by-apart;
+  }
+
+  pub pile-parts : ReplaceParts l (rest .at + rest .pending) (rest .pile) by m to capacity
+  pile-parts = record {
+    from-within = omega (arith, P .rest-within);
+    by-within = P .by-within;
+    to-within = P .to-within;
+    from-apart = apart-part (P .rest-apart) (omega arith) (omega arith) (omega arith) (omega arith);
+    by-apart = P .by-apart;
+  }
+
+-- a row is written: its first words are there, and its numbers are words
+pub record FinishParts (l : List ℕ) (rest : Rest) (by m to written size x next : ℕ) : Type 0 where
+  pub parts : BindParts l rest by m to (8 + size)
+  pub written-within : written ≤ size
+  pub size-small : size ≤ 8192
+  pub unknown : 1000 ≤ x
+  pub bindings-small : rest .bindings < 65535
+  pub next-small : next < 65536

@@ -1,0 +1,86 @@
+-- What is asked of terms, asked of their words: an unknown's word occurs where the unknown does, and to put a term for an unknown is to
+-- replace the unknown's word by the term's words.
+use Prim.Native.Nat.{ℕ, suc, _+_, _<_, _≤_}
+use mathlib.Core.Path.{_≡_, refl, ap, sym, _∙_}
+use mathlib.Core.List.{List, [], _∷_, _++_, append-nil, append-assoc, map}
+use mathlib.Core.Bool.{Bool, true, false, cond, _||_}
+use native.Mathlib.Omega.{arith}
+use lib.Dec.{eqb}
+use borrow.Author.Tests.{eqb-true, eqb-false, ne-eqb, eq-eqb}
+use Rattle.room.specs.Replaced.{image, replaced, replaced-append, replaced-cons, replaced-nil, image-same, image-other, by-test}
+use Rattle.terms.specs.Bounds.{Bounds, Proper}
+use Rattle.terms.specs.Lists.{any}
+use Rattle.terms.specs.Term.{Term, Terms, unknown, empty, with, functor, none, more, words, words*, subst, subst*, occurs, occurs*}
+use Rattle.terms.specs.Formed.{Equation, sides, row}
+
+-- is x one of the words?
+unfoldable pub holds : ℕ → List ℕ → Bool
+holds x ws = any (λ w. eqb w x) ws
+
+pub holds-append : (x : ℕ) (vs ws : List ℕ) → holds x (vs ++ ws) ≡ (holds x vs || holds x ws)
+unfolding holds any
+holds-append x [] ws = refl
+holds-append x (v ∷ vs) ws = by-test (eqb v x) (λ t. rw t) (λ f. rw f (holds-append x vs ws))
+
+or-false : (c : Bool) → (c || false) ≡ c
+or-false true = refl
+or-false false = refl
+
+module _ {b : Bounds} (proper : Proper b) {x : ℕ} (h : x < b .unknown-words) where
+  abbrev word : ℕ
+  word = b .first-unknown + x
+
+  pub eqb-unknown : (i : ℕ) → eqb (b .first-unknown + i) (b .first-unknown + x) ≡ eqb i x
+  eqb-unknown i =
+      by-test (eqb i x)
+      (λ t. rw t (eq-eqb _ _ (ap (λ j. b .first-unknown + j) (eqb-true i x t))))
+      (λ f. rw f (ne-eqb (b .first-unknown + i) (b .first-unknown + x) (λ e. eqb-false i x f (omega arith))))
+
+  pub mark-other : (w : ℕ) → w < 2 → eqb w (b .first-unknown + x) ≡ false
+  mark-other w l = ne-eqb w (b .first-unknown + x) (λ e. omega (arith, proper .after-marks))
+
+  pub functor-other : (k : ℕ) → eqb (b .first-functor + k) (b .first-unknown + x) ≡ false
+  functor-other k = ne-eqb (b .first-functor + k) (b .first-unknown + x) (λ e. omega (arith, proper .before-functors))
+
+  mutual
+    unfolding words occurs holds any
+
+    pub holds-words : (t : Term) → holds (b .first-unknown + x) (words b t) ≡ occurs x t
+    holds-words (unknown i) = rw (eqb-unknown i) (or-false (eqb i x))
+    holds-words empty = rw (mark-other 0 (omega arith))
+    holds-words (with m r) =
+        rw (mark-other 1 (omega arith)) (holds-append (b .first-unknown + x) (words b m) (words b r) ∙ rw (holds-words m, holds-words r))
+    holds-words (functor k ts) = rw (functor-other k) (holds-words* ts)
+
+    pub holds-words* : (ts : Terms) → holds (b .first-unknown + x) (words* b ts) ≡ occurs* x ts
+    holds-words* none = refl
+    holds-words* (more t ts) = holds-append (b .first-unknown + x) (words b t) (words* b ts) ∙ rw (holds-words t, holds-words* ts)
+
+  module _ (s : Term) where
+    kept-word : (w : ℕ) → eqb w (b .first-unknown + x) ≡ false → (ws : List ℕ)
+        → replaced (b .first-unknown + x) (words b s) (w ∷ ws) ≡ w ∷ replaced (b .first-unknown + x) (words b s) ws
+    kept-word w e ws = rw (replaced-cons, image-other (b .first-unknown + x) (words b s) w (eqb-false w (b .first-unknown + x) e))
+
+    mutual
+      unfolding words subst
+
+      pub replaced-words : (t : Term) → replaced (b .first-unknown + x) (words b s) (words b t) ≡ words b (subst x s t)
+      replaced-words (unknown i) =
+          by-test (eqb i x)
+          (λ e.
+          rw (e, replaced-cons, replaced-nil, image-same (b .first-unknown + x) (words b s) (b .first-unknown + i) (ap (λ j. b .first-unknown + j) (eqb-true i x e)))
+          (append-nil (words b s)))
+          (λ e.
+          rw (e, replaced-cons, replaced-nil, image-other (b .first-unknown + x) (words b s) (b .first-unknown + i) (λ q. eqb-false i x e (omega arith))))
+      replaced-words empty =
+          kept-word 0 (mark-other 0 (omega arith)) [] ∙ ap (λ ws. 0 ∷ ws) (replaced-nil (b .first-unknown + x) (words b s))
+      replaced-words (with m r) =
+          kept-word 1 (mark-other 1 (omega arith)) (words b m ++ words b r)
+          ∙ ap (λ ws. 1 ∷ ws) (replaced-append (b .first-unknown + x) (words b s) (words b m) (words b r) ∙ rw (replaced-words m, replaced-words r))
+      replaced-words (functor k ts) =
+          kept-word (b .first-functor + k) (functor-other k) (words* b ts) ∙ ap (λ ws. (b .first-functor + k) ∷ ws) (replaced-words* ts)
+
+      pub replaced-words* : (ts : Terms) → replaced (b .first-unknown + x) (words b s) (words* b ts) ≡ words* b (subst* x s ts)
+      replaced-words* none = replaced-nil (b .first-unknown + x) (words b s)
+      replaced-words* (more t ts) =
+          replaced-append (b .first-unknown + x) (words b s) (words b t) (words* b ts) ∙ rw (replaced-words t, replaced-words* ts)

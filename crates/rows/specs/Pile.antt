@@ -1,0 +1,122 @@
+-- The entries of a pile in words: each is an unknown's word and then a term's words. Some of them are selected by their unknown: those of x, or the
+-- others. Then the same said of the pile's trees.
+use Prim.Native.Nat.{ℕ, zero, suc, _+_, _<_, _≤_}
+use mathlib.Core.Path.{_≡_, refl, ap, sym, _∙_}
+use mathlib.Core.List.{List, [], _∷_, _++_, append-assoc}
+use mathlib.Core.Bool.{Bool, true, false, cond, not}
+use native.Mathlib.Omega.{arith}
+use native.Mathlib.Nat.{zero-add}
+use native.Mathlib.Numerals.{add-one}
+use lib.Dec.{eqb}
+use borrow.Author.Tests.{eqb-true, eqb-false, ne-eqb, eq-eqb}
+use lib.ListN.{length, take, drop}
+use lib.Seq.{take-at, drop-at}
+use Rattle.room.specs.Replaced.{by-test}
+use Rattle.terms.specs.Bounds.{Bounds, Proper}
+use Rattle.terms.specs.Kind.{takes, Worded}
+use Rattle.terms.specs.Term.{Term, words, size}
+use Rattle.terms.specs.Formed.{Formed}
+use Rattle.terms.specs.Answers.{Named}
+use Rattle.terms.specs.Lists.{All, none, both}
+use Rattle.terms.specs.Flat.{length-words}
+use Rattle.search.specs.Children.{entries, others}
+use Rattle.rows.specs.declared.pile.Part.{Part}
+use Rattle.rows.specs.declared.pile.Part.the-variants.{Entries, Others}
+use Rattle.rows.specs.Ended.{ended, ended-none, ended-shift, term-end, term-end-words}
+
+-- is the entry of an unknown wanted?
+unfoldable pub wants : Part → ℕ → ℕ → Bool
+wants Entries name x = eqb name x
+wants Others name x = not (eqb name x)
+
+unfoldable pub also : Bool → ℕ → List ℕ → List ℕ
+also true w ws = w ∷ ws
+also false w ws = ws
+
+unfoldable pub kept : Bool → List ℕ → List ℕ
+kept true ws = ws
+kept false ws = []
+
+-- so many terms of an entry are due, and it is wanted or not
+unfoldable pub selected : Bounds → List ℕ → Part → ℕ → (due : ℕ) → Bool → List ℕ → List ℕ
+selected b arities part x due keep [] = []
+selected b arities part x zero keep (w ∷ ws) = also (wants part w x) w (selected b arities part x 1 (wants part w x) ws)
+selected b arities part x (suc due) keep (w ∷ ws) = also keep w (selected b arities part x (due + takes b arities w) keep ws)
+
+abbrev pub selection : Bounds → List ℕ → Part → ℕ → List ℕ → List ℕ
+selection b arities part x ws = selected b arities part x 0 false ws
+
+module _ (b : Bounds) (arities : List ℕ) (part : Part) (x : ℕ) where
+  -- where an entry begins, nothing is known of it
+  selected-start : (keep : Bool) (ws : List ℕ) → selected b arities part x 0 keep ws ≡ selection b arities part x ws
+  unfolding selected
+  selected-start keep [] = refl
+  selected-start keep (w ∷ ws) = refl
+
+  also-kept : (keep : Bool) (w : ℕ) (us vs : List ℕ) → also keep w (kept keep us ++ vs) ≡ kept keep (w ∷ us) ++ vs
+  unfolding also kept
+  also-kept true w us vs = refl
+  also-kept false w us vs = refl
+
+  -- the rest of an entry, and then the next one
+  selected-rest : (ws : List ℕ) (due : ℕ) (keep : Bool)
+      → selected b arities part x due keep ws ≡ kept keep (take (ended b arities ws due 0) ws) ++ selection b arities part x (drop (ended b arities ws due 0) ws)
+  unfolding selected ended kept
+  selected-rest [] due true = refl
+  selected-rest [] due false = refl
+  selected-rest (w ∷ ws) zero true = refl
+  selected-rest (w ∷ ws) zero false = refl
+  selected-rest (w ∷ ws) (suc due) keep =
+      let e : ended b arities ws (due + takes b arities w) (0 + 1) ≡ suc (ended b arities ws (due + takes b arities w) 0) =
+      ended-shift b arities ws (due + takes b arities w) 0 1 ∙ add-one _ in
+      rw (e, selected-rest ws (due + takes b arities w) keep) (also-kept keep w _ _)
+
+  -- the first entry, and then the others
+  pub selection-entry : (w : ℕ) (ws : List ℕ) → selection b arities part x (w ∷ ws)
+      ≡ kept (wants part w x) (w ∷ take (term-end b arities ws) ws) ++ selection b arities part x (drop (term-end b arities ws) ws)
+  unfolding selected
+  selection-entry w ws =
+      ap (also (wants part w x) w) (selected-rest ws 1 (wants part w x)) ∙ also-kept (wants part w x) w _ _
+
+-- ---- the pile's trees
+
+-- an entry X = t is held as the words of X and of t
+unfoldable pub pile-words : Bounds → List Named → List ℕ
+pile-words b [] = []
+pile-words b (n ∷ ns) = (b .first-unknown + n .name) ∷ (words b (n .value) ++ pile-words b ns)
+
+pub pile-append : (b : Bounds) (ms ns : List Named) → pile-words b (ms ++ ns) ≡ pile-words b ms ++ pile-words b ns
+unfolding pile-words
+pile-append b [] ns = refl
+pile-append b (m ∷ ms) ns = ap (λ ws. (b .first-unknown + m .name) ∷ ws) (ap (λ ws. words b (m .value) ++ ws) (pile-append b ms ns) ∙ sym (append-assoc (words b (m .value)) (pile-words b ms) (pile-words b ns)))
+
+-- the entries of x, or the others
+unfoldable pub chosen : Part → ℕ → List Named → List Named
+chosen Entries x ns = entries x ns
+chosen Others x ns = others x ns
+
+module _ {b : Bounds} {arities : List ℕ} {k : ℕ} (worded : Worded b arities k) (x : ℕ) where
+  same-name : (i : ℕ) → eqb (b .first-unknown + i) (b .first-unknown + x) ≡ eqb i x
+  same-name i =
+      by-test (eqb i x)
+      (λ t. rw t (eq-eqb _ _ (ap (λ j. b .first-unknown + j) (eqb-true i x t))))
+      (λ f. rw f (ne-eqb (b .first-unknown + i) (b .first-unknown + x) (λ e. eqb-false i x f (omega arith))))
+
+  -- the first entry's words, where it is wanted, before those of the others
+  chosen-entry : (part : Part) (n : Named) (ns : List Named)
+      → pile-words b (chosen part x (n ∷ ns)) ≡ kept (wants part (b .first-unknown + n .name) (b .first-unknown + x)) ((b .first-unknown + n .name) ∷ words b (n .value)) ++ pile-words b (chosen part x ns)
+  unfolding chosen entries others pile-words wants kept
+  chosen-entry Entries n ns = rw (same-name (n .name)) (by-test (eqb (n .name) x) (λ t. rw t) (λ f. rw f))
+  chosen-entry Others n ns = rw (same-name (n .name)) (by-test (eqb (n .name) x) (λ t. rw t) (λ f. rw f))
+
+  pub selection-pile : (part : Part) {ns : List Named} → All (λ n. Formed arities k (n .value)) ns
+      → selection b arities part (b .first-unknown + x) (pile-words b ns) ≡ pile-words b (chosen part x ns)
+  unfolding selected chosen entries others pile-words
+  selection-pile Entries none = refl
+  selection-pile Others none = refl
+  selection-pile part (both {x = n} {xs = ns} f fs) =
+      let e : term-end b arities (words b (n .value) ++ pile-words b ns) ≡ size (n .value) = term-end-words worded f (pile-words b ns) in
+      let l : length (words b (n .value)) ≡ size (n .value) = length-words b (n .value) in
+      selection-entry b arities part (b .first-unknown + x) (b .first-unknown + n .name) (words b (n .value) ++ pile-words b ns)
+      ∙ rw (e, take-at (words b (n .value)) (pile-words b ns) (size (n .value)) l, drop-at (words b (n .value)) (pile-words b ns) (size (n .value)) l, selection-pile part fs)
+      (sym (chosen-entry part n ns))

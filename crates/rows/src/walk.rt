@@ -1,0 +1,94 @@
+// Walks over the words of terms: where a term ends, where its kernel stands, whether a word occurs.
+ghost use mathlib.Core.Path.{_≡_};
+ghost use Prim.Native.Nat.{_<_, _^_};
+ghost use lib.ListN.{length};
+ghost use lib.Dec.{leb, ltb};
+ghost use mathlib.Core.Bool.{_&&_};
+ghost use Rattle.terms.specs.Bounds.{edition-one};
+ghost use Rattle.terms.specs.Kind.{takes, within};
+ghost use Rattle.rows.specs.Ended.{term-end};
+ghost use Rattle.rows.specs.Stripped.{kernel-at};
+ghost use Rattle.rows.specs.Flat.{holds};
+
+pub fn wide(word: u16) -> usize
+    ensures { λ r. ⌜ r ≡ word ⌝ }
+{
+    word as usize
+}
+
+// Whether a word is an unknown's.
+pub fn is_unknown(word: u16) -> bool
+    ensures { λ r. ⌜ r ≡ within 1000 1000 word ⌝ }
+{
+    1000 <= word && word < 2000
+}
+
+// How many terms follow a word.
+pub fn terms_after(arities: &[u8], word: u16) -> usize
+    ensures { λ r. ⌜ (r ≡ takes edition-one (now (arities .entry)) word) × (r < 256) ⌝ }
+{
+    if word == 1 {
+        return 2;
+    }
+    if word < 2000 {
+        return 0;
+    }
+    let k = wide(word) - 2000;
+    if k < arities.len() {
+        return arities[k] as usize;
+    }
+    0
+}
+
+// The place after the first term of the words, or their end where it does not end before.
+pub fn end_of_term(arities: &[u8], words: &[u16]) -> usize
+    requires { ⌜ length (now words) < 2 ^ 32 ⌝ }
+    ensures { λ r. ⌜ r ≡ term-end edition-one (now (arities .entry)) (now (words .entry)) ⌝ }
+{
+    let mut place = 0;
+    let mut due = 1;
+    while 0 < due {
+        if words.len() <= place {
+            return place;
+        }
+        due = due - 1 + terms_after(arities, words[place]);
+        place += 1;
+    }
+    place
+}
+
+// The place of the kernel of the term that the words begin with.
+pub fn place_of_kernel(arities: &[u8], words: &[u16]) -> usize
+    requires { ⌜ length (now words) < 2 ^ 32 ⌝ }
+    ensures { λ r. ⌜ r ≡ kernel-at edition-one (now (arities .entry)) (now (words .entry)) ⌝ }
+{
+    let mut place = 0;
+    let mut due = 0;
+    while place < words.len() {
+        if 0 < due {
+            due = due - 1 + terms_after(arities, words[place]);
+            place += 1;
+        } else {
+            if words[place] != 1 {
+                return place;
+            }
+            due = 1;
+            place += 1;
+        }
+    }
+    place
+}
+
+// Whether x is one of the words.
+pub fn is_in(words: &[u16], x: u16) -> bool
+    ensures { λ r. ⌜ r ≡ holds x (now (words .entry)) ⌝ }
+{
+    let mut i = 0;
+    while i < words.len() {
+        if words[i] == x {
+            return true;
+        }
+        i += 1;
+    }
+    false
+}

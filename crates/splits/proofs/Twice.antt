@@ -1,0 +1,218 @@
+-- Two bindings, one after the other: s by way of the last row of scratch, then r.
+use Prim.Native.Nat.{ℕ, zero, suc, _+_, _-_, _*_, _<_, _≤_, _^_}
+use mathlib.Core.Path.{_≡_, refl, ap, sym, _∙_}
+use mathlib.Core.List.{List, [], _∷_, _++_, map}
+use mathlib.Core.Bool.{Bool, true, false}
+use native.Mathlib.Omega.{arith}
+use native.Mathlib.Nat.{zero-add}
+use lib.Dec.{eqb, leb, ltb}
+use lib.ListN.{length, getD, length-append}
+use borrow.Author.Tests.{le-ltb, leb-true, leb-false}
+use Rattle.room.specs.Room.{seg, put, Within, seg-seg}
+use Rattle.room.specs.Parts.{Apart, earlier, later}
+use Rattle.room.specs.Replaced.{by-test}
+use Rattle.terms.specs.Bounds.{edition-one, edition-one-proper}
+use Rattle.terms.specs.Kind.{Worded}
+use Rattle.terms.specs.Lists.{All, both, All-map, All-of-map}
+use Rattle.terms.specs.Lists as lists
+use Rattle.terms.specs.Term.{Term, Terms, unknown, empty, with, functor, none, more, words, size, members, kernel, over, subst, subst*, count}
+use Rattle.terms.specs.Formed.{Formed, Formed*, formed-unknown, formed-empty, formed-with, formed-functor, formed-none, formed-more}
+use Rattle.terms.specs.Formed.{Equation}
+use Rattle.terms.specs.Answers.{Named}
+use Rattle.search.specs.State.{State, Node, live, state-size}
+use Rattle.search.specs.Children.{bound-state, kept, others}
+use Rattle.rows.specs.declared.bind.Rest.{Rest}
+use Rattle.rows.specs.declared.bind.Made.{Made}
+use Rattle.rows.specs.declared.bind.Made.the-variants.{Dead, Names, Large, Live}
+use Rattle.rows.specs.Finished.{made}
+use Rattle.rows.specs.Row.{Makes, becomes}
+use Rattle.rows.specs.Child.{Stands, ahead}
+use Rattle.turns.specs.Picking.{joining-by}
+use Rattle.splits.specs.declared.sides.Sides.{Sides}
+use Rattle.splits.specs.Opened.{Parent, Opened, own-left, own-right, to-left, to-right, news}
+use Rattle.splits.specs.Due.{Due}
+use Rattle.splits.specs.Bound.{Bound, BoundParts, BoundMade, bound-child}
+use Rattle.splits.specs.Kept.{fourth}
+use Rattle.splits.specs.Occurring.{bound-size}
+use Rattle.splits.specs.Shared.{Again, AgainParts, AgainMade, Twice, first-value, second-value, half, twice, sixth}
+use Rattle.splits.proofs.Opening.{numbers}
+use Rattle.splits.proofs.Making.{Below, makes-before, makes-large}
+
+-- ---- terms stay formed
+
+mutual
+  pub formed-more-unknowns : {arities : List ℕ} {n m : ℕ} {t : Term} → n ≤ m → Formed arities n t → Formed arities m t
+  formed-more-unknowns h (formed-unknown {i = i} f) = formed-unknown {i = i} (omega arith)
+  formed-more-unknowns h formed-empty = formed-empty
+  formed-more-unknowns h (formed-with f g) = formed-with (formed-more-unknowns h f) (formed-more-unknowns h g)
+  formed-more-unknowns h (formed-functor k e f) = formed-functor k e (formed-more-unknowns* h f)
+
+  formed-more-unknowns* : {arities : List ℕ} {n m : ℕ} {ts : Terms} → n ≤ m → Formed* arities n ts → Formed* arities m ts
+  formed-more-unknowns* h formed-none = formed-none
+  formed-more-unknowns* h (formed-more f g) = formed-more (formed-more-unknowns h f) (formed-more-unknowns* h g)
+
+same-count : (x : ℕ) (v : Term) (ts : Terms) → count (subst* x v ts) ≡ count ts
+unfolding subst* count
+same-count x v none = refl
+same-count x v (more t ts) = ap suc (same-count x v ts)
+
+module _ {arities : List ℕ} {n : ℕ} (x : ℕ) {v : Term} (formed : Formed arities n v) where
+  mutual
+    unfolding subst count
+
+    pub formed-subst : {t : Term} → Formed arities n t → Formed arities n (subst x v t)
+    formed-subst (formed-unknown {i = i} h) = by-test (eqb i x) (λ t. rw t formed) (λ f. rw f (formed-unknown h))
+    formed-subst formed-empty = formed-empty
+    formed-subst (formed-with f g) = formed-with (formed-subst f) (formed-subst g)
+    formed-subst (formed-functor {ts = ts} h e f) = formed-functor h (same-count x v ts ∙ e) (formed-subst* f)
+
+    formed-subst* : {ts : Terms} → Formed* arities n ts → Formed* arities n (subst* x v ts)
+    formed-subst* formed-none = formed-none
+    formed-subst* (formed-more f g) = formed-more (formed-subst f) (formed-subst* g)
+
+-- the members of a formed set, and those of them that join a tail
+formed-members : {arities : List ℕ} {n : ℕ} {t : Term} → Formed arities n t → All (Formed arities n) (members t)
+unfolding members
+formed-members (formed-unknown h) = lists.none
+formed-members formed-empty = lists.none
+formed-members (formed-with f g) = both f (formed-members g)
+formed-members (formed-functor h e f) = lists.none
+
+formed-joining : {arities : List ℕ} {n : ℕ} (pair : Term → Term → Equation) (tail : Bool) (others : List Term) {owns : List Term} (ds : List ℕ) → All (Formed arities n) owns
+    → All (Formed arities n) (joining-by pair tail others owns ds)
+unfolding joining-by
+formed-joining pair tail others ds lists.none = lists.none
+formed-joining pair tail others [] (both f fs) = lists.none
+formed-joining pair tail others (d ∷ ds) (both f fs) =
+    by-test (ltb d (length others)) (λ t. rw t (formed-joining pair tail others ds fs)) (λ q. rw q (both f (formed-joining pair tail others ds fs)))
+
+formed-over : {arities : List ℕ} {n : ℕ} {ms : List Term} {k : Term} → All (Formed arities n) ms → Formed arities n k → Formed arities n (over ms k)
+unfolding over
+formed-over lists.none g = g
+formed-over (both f fs) g = formed-with f (formed-over fs g)
+
+formed-others : {arities : List ℕ} {n : ℕ} (x : ℕ) {ns : List Named} → All (λ m. Formed arities n (m .value)) ns → All (λ m. Formed arities n (m .value)) (others x ns)
+unfolding others
+formed-others x lists.none = lists.none
+formed-others x (both {x = m} f fs) = by-test (eqb (m .name) x) (λ t. rw t (formed-others x fs)) (λ q. rw q (both f (formed-others x fs)))
+
+-- ---- what is told of a live node
+
+module _ (lent : ℕ) (st : State) (few : st .next ≤ 512) {a : Made} (tells : a ≡ becomes edition-one lent (live st)) where
+  told-made : a ≡ made lent (state-size st)
+  unfolding becomes edition-one
+  told-made = tells ∙ rw (le-ltb 512 (st .next) few)
+
+  pub live-fits : a ≡ Live → state-size st ≤ lent
+  unfolding made
+  live-fits e =
+      let t = told-made in
+      by-test (leb (state-size st) lent) (λ b. leb-true (state-size st) lent b)
+      (λ b. let g : a ≡ Large = t ∙ rw b in let z : _≡_ {A = ℕ} 0 1 = cc in absurd (omega arith))
+
+  pub not-live : (a ≡ Live → ⊥) → lent < state-size st
+  unfolding made
+  not-live n =
+      let t = told-made in
+      by-test (leb (state-size st) lent) (λ b. absurd (n (t ∙ rw b))) (λ b. leb-false (state-size st) lent b)
+
+-- ---- the first binding
+
+module _ {arities l : List ℕ} {from : ℕ} {rest : Rest} {sides : Sides} {x u y m to lent next scratch : ℕ} {p : Parent} {s r : ℕ}
+    (D : Twice arities l from rest sides x u y m to lent next scratch p s r) where
+  abbrev O : Opened arities l from rest sides lent next scratch p
+  O = D .due .opened
+
+  abbrev between : ℕ
+  between = scratch + (lent + 8) + (lent + 8) + (lent + 8) + (lent + 8) + (lent + 8) + (lent + 8)
+
+  first-bound : Bound arities l from rest sides x (fourth lent scratch) u between lent (next + 1) scratch p s (first-value p next)
+  first-bound =
+      let N = numbers O in
+      record {
+        named = next;
+        opened = O;
+        target = record { to-within = omega arith; low-apart = earlier (omega arith); high-apart = earlier (omega arith) };
+        x-is = D .x-is;
+        name-small = omega (arith, D .s-below);
+        stands = D .first;
+        few = D .few;
+        by-within = omega (arith, D .u-within);
+        by-apart = earlier (omega (arith, D .u-within));
+      }
+
+  pub first-parts : BoundParts arities l from rest sides x (fourth lent scratch) u between lent (next + 1) scratch
+  first-parts = record { p = p; name = s; value = first-value p next; bound = first-bound }
+
+  half-next : half p next s .next ≤ 512
+  unfolding half bound-state ahead
+  half-next = D .few
+
+  module _ {a : Made} {q : List ℕ} (M : BoundMade arities l from rest sides x (fourth lent scratch) u between lent (next + 1) scratch a q) where
+    half-made : Makes edition-one l between lent (live (half p next s)) a q
+    unfolding half bound-child
+    half-made = M .makes p s (first-value p next) first-bound
+
+    between-below : to ≤ between
+    between-below = omega (arith, D .due .before)
+
+    half-below : Below l q to
+    half-below =
+        let h = between-below in
+        let B = half-made in
+        record {
+          long = B .long;
+          below = rw zero-add at (sym (seg-seg q 0 between 0 to (omega arith)) ∙ ap (λ (ws : List ℕ). seg ws 0 to) (B .below) ∙ seg-seg l 0 between 0 to (omega arith));
+        }
+
+    twice-next : twice p next s r .next ≤ 512
+    unfolding twice half bound-state ahead
+    twice-next = D .few
+
+    pub twice-large : (a ≡ Live → ⊥) → Makes edition-one l to lent (live (twice p next s r)) Large q
+    unfolding twice edition-one
+    twice-large n =
+        let h = not-live lent (half p next s) half-next (half-made .tells) n in
+        makes-large half-below twice-next (omega (arith, bound-size r (omega (arith, D .r-below, D .few)) (second-value p next s) (half p next s) .0))
+
+    first-formed : Formed arities (next + 1) (first-value p next)
+    unfolding first-value to-left
+    first-formed =
+        formed-over (formed-joining own-right _ (members (p .t)) (p .es) (formed-members (formed-more-unknowns {m = next + 1} (omega arith) (O .formed-u)))) (formed-unknown (omega arith))
+
+    few-unknowns : next + 1 ≤ edition-one .unknown-words
+    unfolding edition-one
+    few-unknowns = omega (arith, D .few)
+
+    pub second-again : a ≡ Live → Again arities q between y (sixth lent scratch) m to lent (next + 1) (half p next s) r (second-value p next s)
+    unfolding half bound-state ahead kept
+    second-again e =
+        let N = numbers O in
+        let B = half-made in
+        let long = B .long in
+        record {
+          fresh = B .holds (half p next s) refl e;
+          fits = live-fits lent (half p next s) half-next (B .tells) e;
+          worded = record { proper = O .worded .proper; functors = O .worded .functors; unknowns = few-unknowns };
+          formed = All-of-map (kept s (first-value p next)) (λ k f. formed-subst s first-formed f) (formed-others s (All-map (λ k f. formed-more-unknowns {m = next + 1} (omega arith) f) (O .formed-pile)));
+          next-is = refl;
+          few = D .few;
+          lent-small = N .lent-small;
+          small = rw long (N .small);
+          bindings-small = omega (arith, length-append (p .st .bindings) (record { name = s; value = first-value p next } ∷ []), O .rested .bindings, N .bindings-small);
+          x-is = D .y-is;
+          name-small = omega (arith, D .r-below, D .few);
+          stands = record {
+            stands = rw zero-add at (sym (seg-seg q 0 between (sixth lent scratch) m (omega (arith, D .m-within))) ∙ ap (λ (ws : List ℕ). seg ws (sixth lent scratch) m) (B .below) ∙ seg-seg l 0 between (sixth lent scratch) m (omega (arith, D .m-within))) ∙ D .second .stands;
+          };
+          below = omega (arith, D .due .before);
+          by-within = rw long (omega (arith, D .m-within));
+          by-apart = later (omega (arith, D .due .before));
+        }
+
+    pub second-parts : a ≡ Live → AgainParts arities q between y (sixth lent scratch) m to lent (next + 1)
+    second-parts e = record { st = half p next s; name = r; value = second-value p next s; again = second-again e }
+
+    pub twice-made : a ≡ Live → {b : Made} {o : List ℕ} → AgainMade arities q between y (sixth lent scratch) m to lent (next + 1) b o → Makes edition-one l to lent (live (twice p next s r)) b o
+    unfolding twice
+    twice-made e A = makes-before half-below (A .makes (half p next s) r (second-value p next s) (second-again e))

@@ -1,0 +1,37 @@
+// A child of a split, by the kind of its two tails.
+ghost use mathlib.Core.Path.{_≡_};
+ghost use Rattle.splits.specs.Due.{ChildParts, ChildMade};
+use crate::different::different;
+use crate::kept::neither;
+use crate::kept::same;
+use crate::sides::Sides;
+use crate::tail::left;
+use crate::tail::right;
+use rows::bind::Made;
+use rows::bind::Rest;
+use search::steps::Tails;
+
+// Makes the child whose picks stand in scratch, in the row at `to`.
+pub fn split(
+    arities: &[u8],
+    room: &mut [u16],
+    from: usize,
+    rest: Rest,
+    sides: Sides,
+    tails: Tails,
+    to: usize,
+    size: usize,
+    next: usize,
+    scratch: usize,
+) -> Made
+    requires { ⌜ ChildParts (now arities) (now room) from rest sides tails to size next scratch ⌝ }
+    ensures { λ r. ⌜ ChildMade (now (arities .entry)) (now (room .entry)) from rest sides tails to size next scratch r (now (room .exit)) ⌝ }
+{
+    match tails {
+        Tails::Neither => neither(arities, room, from, rest, sides, to, size, next, scratch),
+        Tails::Left => left(arities, room, from, rest, sides, to, size, next, scratch),
+        Tails::Right => right(arities, room, from, rest, sides, to, size, next, scratch),
+        Tails::Different => different(arities, room, from, rest, sides, to, size, next, scratch),
+        Tails::Same => same(arities, room, from, rest, sides, to, size, next, scratch),
+    }
+}
