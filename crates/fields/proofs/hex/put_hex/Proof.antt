@@ -1,0 +1,72 @@
+use Prim.Native.Nat.{_-_}
+use borrow.Author.Needs.{needs}
+use native.Mathlib.Omega.{arith}
+use mathlib.Core.Path.{_≡_}
+use lib.ListN.{length}
+use Rattle.fields.proofs.hex.put_hex.Statement.{statement}
+use Rattle.fields.proofs.hex.put_hex.Tie as tie
+
+abbrev Inv-loop : tie.InvT-loop
+Inv-loop page₀ at bytes next₀ i₀ page next i = length page ≡ length page₀
+
+abbrev μ-loop : tie.MeasureT-loop
+μ-loop page₀ at bytes next₀ i₀ page next i = length bytes - i
+
+loop-holds : tie.Need-loop-holds Inv-loop μ-loop
+loop-holds c = search needs
+
+shared-slice-read-byte : tie.Need-shared-slice-read-byte Inv-loop μ-loop
+shared-slice-read-byte c = search needs
+
+high-requires : tie.Need-high-requires Inv-loop μ-loop
+high-requires c κs = search needs
+
+digit-of-requires : tie.Need-digit-of-requires Inv-loop μ-loop
+digit-of-requires c κs = search needs
+
+put-byte-requires : tie.Need-put-byte-requires Inv-loop μ-loop
+put-byte-requires c κs = search needs
+
+low-requires : tie.Need-low-requires Inv-loop μ-loop
+low-requires c κs = search needs
+
+digit-of-requires-2 : tie.Need-digit-of-requires-2 Inv-loop μ-loop
+digit-of-requires-2 c κs = search needs
+
+put-byte-requires-2 : tie.Need-put-byte-requires-2 Inv-loop μ-loop
+put-byte-requires-2 c κs = search needs
+
+add-i : tie.Need-add-i Inv-loop μ-loop
+add-i c = search needs
+
+loop-less : tie.Need-loop-less Inv-loop μ-loop
+loop-less c = search needs
+
+loop-again : tie.Need-loop-again Inv-loop μ-loop
+loop-again c = search needs
+
+same-length : tie.Need-same-length Inv-loop μ-loop
+same-length c = search needs
+
+returns : tie.Need-returns Inv-loop μ-loop
+returns c = search needs
+
+pub put-hex-spec : {M : Type 1} → statement M
+put-hex-spec =
+    tie.close
+    (tie.spec
+    Inv-loop
+    μ-loop
+    loop-holds
+    shared-slice-read-byte
+    high-requires
+    digit-of-requires
+    put-byte-requires
+    low-requires
+    digit-of-requires-2
+    put-byte-requires-2
+    add-i
+    loop-less
+    loop-again
+    same-length
+    returns)
