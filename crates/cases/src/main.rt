@@ -5,14 +5,17 @@
 //   writel  A END VISITED COUNT W CAP    ->  ok HEX
 //   equal   A W                          ->  equal, differ
 //   values  U A E W ROW                  ->  yes, no
+//   run     STEPS DEPTH SIZE SPACE HEX   ->  END VISITED ANSWERS W
 //
 // Where an entry refuses, the result is `refused N P`. HEX is bytes in hex; A, W and ROW are numbers with commas between, possibly none; CAP is the length of
-// the lent text buffer. A line that is no case ends the program, with a word on standard error. `reading`, `writing` and `testing` have the kinds; a
-// further kind is one more test in `answer`.
+// the lent text buffer. A line that is no case ends the program, with a word on standard error. `reading`, `writing`, `testing` and
+// `running` have the kinds; a further kind is one more test in `answer`.
 mod asked;
+mod memory;
 mod page;
 mod reading;
 mod results;
+mod running;
 mod testing;
 mod writing;
 
@@ -23,12 +26,14 @@ use fields::line::first_bytes;
 use fields::line::tabs;
 use libc::STDERR_FILENO;
 use libc::STDIN_FILENO;
+use memory::zeros;
 use page::turn;
 use page::write_out;
 use pen::put::put_byte;
 use pen::put::put_bytes;
 use reading::text_case;
 use results::Outcome;
+use running::run_case;
 use testing::equal_case;
 use testing::values_case;
 use writing::writel_case;
@@ -39,10 +44,10 @@ const CHUNK: usize = 65536;
 // The longest line of cases.
 const LINE: usize = 131072;
 
-// The most numbers in a list; a line with more is no case. A word gives 11 bytes of text at most, as `bindings=0` and LF, so that TEXT holds every text.
-const ITEMS: usize = 11904;
+// The most numbers in a list; a line with more is no case. A word gives 12 bytes of text at most, as `unknown=511` and LF, so that TEXT holds every text.
+const ITEMS: usize = 12288;
 
-const TEXT: usize = 131072;
+const TEXT: usize = 147456;
 
 const PAGE: usize = 131072;
 
@@ -87,6 +92,12 @@ fn answer(
     if same(kind, b"values") {
         if further == 5 {
             return values_case(line, arities, words, row, page, at);
+        }
+        return Outcome::Malformed;
+    }
+    if same(kind, b"run") {
+        if further == 5 {
+            return run_case(line, arities, words, row, text, page, at);
         }
         return Outcome::Malformed;
     }
@@ -253,7 +264,7 @@ fn main() {
     let mut line = [0u8; LINE];
     let mut arities = [0u8; ITEMS];
     let mut words = [0u16; ITEMS];
-    let mut row = [0u16; ITEMS];
+    let mut row = zeros();
     let mut text = [0u8; TEXT];
     let mut page = [0u8; PAGE];
     take_all(

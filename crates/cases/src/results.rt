@@ -18,7 +18,7 @@ pub enum Outcome {
     Malformed,
 }
 
-fn wide(number: u32) -> u64 {
+pub fn wide(number: u32) -> u64 {
     number as u64
 }
 

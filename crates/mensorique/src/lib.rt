@@ -15,7 +15,9 @@
 // Counts are taken at full width: one that is too large is refused, never cut.
 ghost use mathlib.Core.Path.{_≡_};
 ghost use lib.ListN.{length};
+ghost use Rattle.room.specs.Room.{put};
 ghost use Rattle.terms.specs.Bounds.{edition-one};
+ghost use Rattle.terms.specs.declared.refusal.Refusal.{Refusal as Why};
 ghost use Rattle.terms.specs.Listing.{answers-of};
 ghost use Rattle.terms.specs.Reading.{question-of};
 ghost use Rattle.search.specs.Ends.{end-of};
@@ -23,9 +25,15 @@ ghost use Rattle.text.specs.Text.{question-text};
 ghost use Rattle.reader.specs.Questions.{question-into, answer, laid, arities-of, words-of};
 ghost use Rattle.writer.specs.Written.{held, question-written, list-written, text-of-list};
 ghost use Rattle.same.specs.Answering.{equal-answer, solves-answer};
+ghost use Rattle.solver.specs.Result.{told, refuses, result, words-told};
 pub use reader::question::Question;
 pub use same::Equality;
 pub use same::Solving;
+pub use search::ends::End;
+pub use search::ends::number_of_end;
+pub use solver::Ran;
+pub use solver::running::Record;
+pub use solver::turn::Ending;
 pub use terms::refusal::Cause;
 pub use terms::refusal::Refusal;
 pub use terms::refusal::number_of;
@@ -109,4 +117,42 @@ pub fn solves(
     ensures { λ r. ⌜ r ≡ solves-answer edition-one unknowns (now (arities .entry)) equations (now (words .entry)) (now (row .entry)) ⌝ }
 {
     same::solves(unknowns, arities, equations, words, row)
+}
+
+// Searches for every solved form of a question, within limits.
+//   Lent: the question; the limits: steps 0 to 1,000,000,000, depth 0 to 1,024, size 0 to 8,192; a buffer for the answers' words, of any length; the room
+//   to work in, of (depth + 8) * (size + 8) words or more. What the room holds changes no result.
+//   Back: `Ended`, with the end, the nodes visited, the answers listed and the words that these take. They stand at the start of the answers' buffer, as
+//   `write_answers` takes them, and what comes after them is unchanged. `Done` is final: ground values solve the question exactly if they fit a listed
+//   answer. Every other end says that the search is not finished, and what to lend more of; the answers listed are true all the same, and a longer run
+//   lists them first. Or `Refused`: 3 with place 0 for the limits; then 3 and 8 for the question, as in `write_question`; then 7 with the words that the room
+//   must have. The room's later words are not told, except that a refusal leaves them alone.
+//   Example: 1, [0], 1, [1000, 1, 2000, 1000], which is x0 = {f0|x0}, steps 3, depth 2, size 4, five answer words and a room of 120 give Done, visited 3, one
+//   answer of 5 words, 1 0 1 2000 1001: one binding, x0 = {f0|x1}.
+pub fn run(
+    unknowns: usize,
+    arities: &[u8],
+    equations: usize,
+    words: &[u16],
+    steps: u64,
+    depth: usize,
+    size: usize,
+    answers: &mut [u16],
+    room: &mut [u16],
+) -> Ran
+    ensures told { λ r. ⌜ r ≡ result (told unknowns (now (arities .entry)) equations (now (words .entry)) steps depth size (length (now (answers .entry))) (length (now (room .entry)))) ⌝ }
+    ensures answers { λ _. ⌜ now (answers .exit) ≡ put (now (answers .entry)) 0 (words-told (told unknowns (now (arities .entry)) equations (now (words .entry)) steps depth size (length (now (answers .entry))) (length (now (room .entry))))) ⌝ }
+    ensures room { λ _. ⌜ ((why : Why) → told unknowns (now (arities .entry)) equations (now (words .entry)) steps depth size (length (now (answers .entry))) (length (now (room .entry))) ≡ refuses why → now (room .exit) ≡ now (room .entry)) ⌝ }
+{
+    solver::run(
+        unknowns,
+        arities,
+        equations,
+        words,
+        steps,
+        depth,
+        size,
+        answers,
+        room,
+    )
 }

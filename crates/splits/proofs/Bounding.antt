@@ -32,7 +32,7 @@ use Rattle.splits.specs.Gathered.{equations-piece, MeetParts}
 use Rattle.splits.specs.Opened.{Parent, Opened, Elsewhere, elsewhere-put, opened-after, news}
 use Rattle.splits.specs.Bound.{Bound, Target, bound-child, BoundMade}
 use Rattle.splits.proofs.Opening.{Numbers, numbers, equation-parts, equations-is}
-use Rattle.splits.proofs.Making.{Below, below-same, below-put, makes-before, makes-dead, makes-large}
+use Rattle.splits.proofs.Making.{Below, below-same, below-put, makes-before, makes-dead, makes-large, dead-only, live-not-dead}
 
 -- the new equations alone are no larger than the child
 pub news-size : (x : ℕ) → x < 1000 → (t : Term) (ds : List Equation) (next : ℕ) (st : State)
@@ -134,6 +134,11 @@ module _ {arities l : List ℕ} {from : ℕ} {rest : Rest} {sides : Sides} {x by
         rw (← k, done-room W) (seg-put-same piece l (to + 8) (omega (arith, T .to-within, done-fits W))) ∙ piece-is in
         makes-before (below-put l (W .out) (to + 8) (W .room) (omega arith))
         (finish-makes (S .worded) (S .rested) (S .formed-pile) there (B .name-small) (rw e at finish-parts) (news p) new (rw e at F) (B .few))
+
+  -- it is no dead end
+  pub bound-kept : {a : Made} {r : List ℕ} → BoundMade arities l from rest sides x by m to lent next scratch a r → a ≡ Dead → r ≡ l
+  unfolding bound-child
+  bound-kept M e = absurd (live-not-dead (dead-only (bound-child p next name value) (M .makes p name value B) e))
 
   -- ---- or a dead end
 

@@ -17,7 +17,7 @@ use Rattle.terms.specs.Term.{Term, words, kernel}
 use Rattle.terms.specs.Formed.{Equation, sides, row}
 use Rattle.terms.specs.Answers.{Named}
 use Rattle.search.specs.declared.steps.Tails.the-variants.{Neither, Same}
-use Rattle.search.specs.State.{State, Node, live, pend, size-equations, state-size}
+use Rattle.search.specs.State.{State, Node, dead, live, pend, size-equations, state-size}
 use Rattle.search.specs.Classify.{tails}
 use Rattle.search.specs.Children.{settle}
 use Rattle.rows.specs.declared.bind.Rest.{Rest}
@@ -38,7 +38,16 @@ use Rattle.splits.specs.Opened.{Parent, Opened, Elsewhere, elsewhere-put
 use Rattle.splits.specs.Due.{Due, child, child-is}
 use Rattle.splits.specs.Kept.{tails-piece, TailsParts}
 use Rattle.splits.proofs.Opening.{Numbers, numbers, equation-parts, equations-is, s-stands, r-stands}
-use Rattle.splits.proofs.Making.{Below, below-put, makes-before, makes-large}
+use Rattle.splits.proofs.Making.{Below, below-put, makes-before, makes-large, live-not-dead}
+
+-- no such child is dead
+pub neither-live : (p : Parent) → tails (p .t) (p .u) ≡ Neither → child p ≡ dead → ⊥
+unfolding settle
+neither-live p k e = live-not-dead (sym (child-is p k) ∙ e)
+
+pub same-live : (p : Parent) → tails (p .t) (p .u) ≡ Same → child p ≡ dead → ⊥
+unfolding settle
+same-live p k e = live-not-dead (sym (child-is p k) ∙ e)
 
 -- a word that stands for itself
 pub replaced-self : (x : ℕ) (ws : List ℕ) → replaced x (x ∷ []) ws ≡ ws

@@ -38,7 +38,7 @@ use Rattle.splits.specs.Occurring.{bound-size, occurs-subst, occurs-over
 use Rattle.splits.specs.Shared.{Sharing, ShareParts, ShareMade, Shared, Twice, TwiceParts, TwiceMade, Renew, RenewParts, RenewMade, JoinedLaid, first-value, second-value, half, twice, sixth}
 use Rattle.splits.proofs.Opening.{numbers}
 use Rattle.splits.proofs.Tailing.{s-word, r-word, s-small, r-small}
-use Rattle.splits.proofs.Making.{Below, below-next, below-put, makes-before, makes-dead, makes-names, makes-large}
+use Rattle.splits.proofs.Making.{Below, below-next, below-put, makes-before, makes-dead, makes-names, makes-large, dead-only, live-not-dead}
 use Rattle.splits.proofs.Values.{u-there, t-there}
 
 module _ {arities l : List ℕ} {from : ℕ} {rest : Rest} {sides : Sides} {joined : Joined} {x y to lent next scratch : ℕ} {l₀ : List ℕ} {p : Parent} {s r : ℕ}
@@ -184,15 +184,14 @@ module _ {arities l : List ℕ} {from : ℕ} {rest : Rest} {sides : Sides} {to l
     abbrev one : List ℕ
     one = put l (fourth lent scratch) U
 
-    due-joined : Due arities q from rest sides to lent next scratch p
-    due-joined =
+    pub joined-elsewhere : Elsewhere l q from lent scratch
+    joined-elsewhere =
         let N = numbers (D .opened) in
-        record {
-          opened = opened-after (elsewhere-next (elsewhere-put l U (fourth lent scratch) from lent scratch refl (earlier (omega arith)) (earlier (omega arith)))
-              (elsewhere-put one T (fourth lent scratch + (lent + 8)) from lent scratch (sharing .room) (earlier (omega arith)) (earlier (omega arith)))) (D .opened);
-          after = D .after;
-          before = D .before;
-        }
+        elsewhere-next (elsewhere-put l U (fourth lent scratch) from lent scratch refl (earlier (omega arith)) (earlier (omega arith)))
+        (elsewhere-put one T (fourth lent scratch + (lent + 8)) from lent scratch (sharing .room) (earlier (omega arith)) (earlier (omega arith)))
+
+    due-joined : Due arities q from rest sides to lent next scratch p
+    due-joined = record { opened = opened-after joined-elsewhere (D .opened); after = D .after; before = D .before }
 
     pub below-joined : Below l q to
     below-joined =
@@ -251,3 +250,6 @@ module _ {arities l : List ℕ} {from : ℕ} {rest : Rest} {sides : Sides} {to l
 
             pub different-made : {a : Made} {o : List ℕ} → RenewMade arities q from rest sides joined x y to lent next scratch a o → Makes edition-one l to lent (child p) a o
             different-made M = rw child-live (makes-before below-joined (M .makes l p s r renewing))
+
+            pub different-live : {a : Made} {o : List ℕ} → RenewMade arities q from rest sides joined x y to lent next scratch a o → a ≡ Dead → ⊥
+            different-live M e = live-not-dead (dead-only (live (twice p next s r)) (M .makes l p s r renewing) e)

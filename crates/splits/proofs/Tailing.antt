@@ -19,6 +19,7 @@ use Rattle.search.specs.Classify.{tails-by, tails}
 use Rattle.search.specs.Children.{bound, settle}
 use Rattle.rows.specs.declared.bind.Rest.{Rest}
 use Rattle.rows.specs.declared.bind.Made.{Made}
+use Rattle.rows.specs.declared.bind.Made.the-variants.{Dead}
 use Rattle.rows.specs.Members.{member-words, words-over, formed-kernel}
 use Rattle.rows.specs.Row.{Makes}
 use Rattle.rows.specs.Child.{Stands, ahead}
@@ -131,6 +132,13 @@ module _ {arities l : List ℕ} {from : ℕ} {rest : Rest} {sides : Sides} {to l
   right-value = rw (right-is S, s-stands S) (sym (words-over edition-one (to-right p) (kernel (p .t))))
 
   -- a value is laid out in the fourth row of scratch
+  value-elsewhere : (out : List ℕ) {r : List ℕ} → r ≡ put l value out → Elsewhere l r from lent scratch
+  value-elsewhere out e = let N = numbers S in elsewhere-put l out value from lent scratch e (earlier (omega arith)) (earlier (omega arith))
+
+  pub tail-kept : (out : List ℕ) {r : List ℕ} → r ≡ put l value out → {x m : ℕ} {a : Made} {q : List ℕ} → TailMade arities r from rest sides x value m to lent next scratch a q
+      → a ≡ Dead → Elsewhere l q from lent scratch
+  tail-kept out there M e = rw (M .kept e) (value-elsewhere out there)
+
   module _ {r : List ℕ} (out : List ℕ) (v : Term) (e : out ≡ words edition-one v) (h : length out ≤ lent) (put-there : r ≡ put l value out) {m : ℕ} (k : m ≡ length out) where
     laid-below : Below l r to
     laid-below = let N = numbers S in below-put l out value put-there (omega (arith, D .before))
@@ -141,7 +149,7 @@ module _ {arities l : List ℕ} {from : ℕ} {rest : Rest} {sides : Sides} {to l
         let long = laid-below .long in
         record {
           named = next;
-          opened = opened-after (elsewhere-put l out value from lent scratch put-there (earlier (omega arith)) (earlier (omega arith))) S;
+          opened = opened-after (value-elsewhere out put-there) S;
           target = record {
             to-within = rw long (omega (arith, D .before));
             low-apart = earlier (omega (arith, D .after));

@@ -10,6 +10,7 @@ use Rattle.search.specs.State.{State, Node, live}
 use Rattle.search.specs.Children.{bound, bound-state}
 use Rattle.rows.specs.declared.bind.Rest.{Rest}
 use Rattle.rows.specs.declared.bind.Made.{Made}
+use Rattle.rows.specs.declared.bind.Made.the-variants.{Dead}
 use Rattle.rows.specs.Row.{Makes}
 use Rattle.rows.specs.Child.{Stands, ahead}
 use Rattle.splits.specs.declared.sides.Sides.{Sides}
@@ -48,7 +49,8 @@ pub record BoundMade (arities l : List ℕ) (from : ℕ) (rest : Rest) (sides : 
   pub makes : (p : Parent) (name : ℕ) (value : Term) → Bound arities l from rest sides x by m to lent next scratch p name value
       → Makes edition-one l to lent (bound-child p next name value) a r
 
--- or a dead end
+-- or a dead end, before anything is written
 pub record TailMade (arities l : List ℕ) (from : ℕ) (rest : Rest) (sides : Sides) (x by m to lent next scratch : ℕ) (a : Made) (r : List ℕ) : Type 0 where
   pub makes : (p : Parent) (name : ℕ) (value : Term) → Bound arities l from rest sides x by m to lent next scratch p name value
       → Makes edition-one l to lent (bound name value (ahead (news p) next (p .st))) a r
+  pub kept : a ≡ Dead → r ≡ l

@@ -10,10 +10,11 @@ use Rattle.search.specs.Classify.{tails}
 use Rattle.search.specs.Children.{settle}
 use Rattle.rows.specs.declared.bind.Rest.{Rest}
 use Rattle.rows.specs.declared.bind.Made.{Made}
+use Rattle.rows.specs.declared.bind.Made.the-variants.{Dead}
 use Rattle.rows.specs.Row.{Makes}
 use Rattle.turns.specs.Picking.{child-of}
 use Rattle.splits.specs.declared.sides.Sides.{Sides}
-use Rattle.splits.specs.Opened.{Parent, Opened, own-left, own-right, to-left, to-right, news}
+use Rattle.splits.specs.Opened.{Parent, Opened, Elsewhere, own-left, own-right, to-left, to-right, news}
 
 unfoldable pub child : Parent → Node
 child p = child-of (tails (p .t) (p .u)) (p .t) (p .u) (p .st) (p .ds) (p .es)
@@ -32,6 +33,8 @@ pub record ChildParts (arities l : List ℕ) (from : ℕ) (rest : Rest) (sides :
 -- the child of whichever parent it is
 pub record ChildMade (arities l : List ℕ) (from : ℕ) (rest : Rest) (sides : Sides) (k : Tails) (to lent next scratch : ℕ) (a : Made) (r : List ℕ) : Type 0 where
   pub makes : (p : Parent) → Due arities l from rest sides to lent next scratch p → tails (p .t) (p .u) ≡ k → Makes edition-one l to lent (child p) a r
+  -- a dead end leaves the parent's row and the first three rows of scratch as they were
+  pub kept : (p : Parent) → Due arities l from rest sides to lent next scratch p → tails (p .t) (p .u) ≡ k → a ≡ Dead → Elsewhere l r from lent scratch
 
 pub child-is : (p : Parent) {k : Tails} → tails (p .t) (p .u) ≡ k → child p ≡ settle k (kernel (p .t)) (kernel (p .u)) (to-right p) (to-left p) (news p) (p .st)
 unfolding child child-of to-right to-left news own-left own-right

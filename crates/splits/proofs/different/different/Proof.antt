@@ -1,8 +1,9 @@
 use Rattle.splits.proofs.Opening.{numbers}
-use Rattle.splits.proofs.Renewing.{joined-within, different-dead, different-names, different-parts, different-made}
+use Rattle.splits.proofs.Renewing.{joined-elsewhere, joined-within, different-dead, different-names, different-parts, different-made, different-live}
 use Rattle.room.specs.Room.{seg}
 use native.Mathlib.Omega.{arith}
-use mathlib.Core.Path.{refl}
+use mathlib.Core.Path.{_≡_, refl}
+use Prim.Native.Nat.{ℕ}
 use borrow.Author.Needs.{needs}
 use Rattle.splits.proofs.different.different.Statement.{statement}
 use Rattle.splits.proofs.different.different.Tie as tie
@@ -119,7 +120,7 @@ same-length c = search needs
 -- src/different.rt:178:9
 returns : tie.Need-returns
 unfolding seg
-returns c = record { makes = λ p D k. different-dead D k (c .before .before .before .before .before .before .before .before .before .lay-joined .ensures) refl refl (c .before .crosses .ensures) (c .if1 .taken) }
+returns c = record { makes = λ p D k. different-dead D k (c .before .before .before .before .before .before .before .before .before .lay-joined .ensures) refl refl (c .before .crosses .ensures) (c .if1 .taken); kept = λ p D k e. joined-elsewhere D k (c .before .before .before .before .before .before .before .before .before .lay-joined .ensures) }
 
 -- src/different.rt:181:9
 same-length-2 : tie.Need-same-length-2
@@ -128,7 +129,7 @@ same-length-2 c = search needs
 -- src/different.rt:181:9
 returns-2 : tie.Need-returns-2
 unfolding seg
-returns-2 c = record { makes = λ p D k. different-names D k (c .before .before .before .before .before .before .before .before .before .before .lay-joined .ensures) refl refl (c .before .before .crosses .ensures) (c .before .if1 .left) (c .if2 .taken) }
+returns-2 c = record { makes = λ p D k. different-names D k (c .before .before .before .before .before .before .before .before .before .before .lay-joined .ensures) refl refl (c .before .before .crosses .ensures) (c .before .if1 .left) (c .if2 .taken); kept = λ p D k e. let z : _≡_ {A = ℕ} 0 1 = cc in absurd (omega arith) }
 
 -- src/different.rt:183:5
 renew-requires : tie.Need-renew-requires
@@ -142,7 +143,7 @@ same-length-3 c = search needs
 -- src/different.rt:155:1
 returns-3 : tie.Need-returns-3
 unfolding seg
-returns-3 c = record { makes = λ p D k. different-made D k (c .before .before .before .before .before .before .before .before .before .before .before .before .before .before .lay-joined .ensures) refl refl (c .before .before .before .before .before .before .crosses .ensures) (c .before .before .before .before .before .if1 .left) (c .before .before .before .before .if2 .left) (c .before .before .renew .ensures) }
+returns-3 c = record { makes = λ p D k. different-made D k (c .before .before .before .before .before .before .before .before .before .before .before .before .before .before .lay-joined .ensures) refl refl (c .before .before .before .before .before .before .crosses .ensures) (c .before .before .before .before .before .if1 .left) (c .before .before .before .before .if2 .left) (c .before .before .renew .ensures); kept = λ p D k e. absurd (different-live D k (c .before .before .before .before .before .before .before .before .before .before .before .before .before .before .lay-joined .ensures) refl refl (c .before .before .before .before .before .before .crosses .ensures) (c .before .before .before .before .before .if1 .left) (c .before .before .before .before .if2 .left) (c .before .before .renew .ensures) e) }
 
 pub different-spec : {M : Type 1} → statement M
 different-spec =

@@ -1,5 +1,6 @@
 use Rattle.splits.proofs.Opening.{numbers}
-use Rattle.splits.proofs.Keeping.{s-place, s-apart, plain-parts, plain, written-within, tails-parts, last-written, news-full, last-full, neither-parts, neither-made}
+use Rattle.splits.proofs.Keeping.{neither-live, s-place, s-apart, plain-parts, plain, written-within, tails-parts, last-written, news-full, last-full, neither-parts, neither-made}
+use Rattle.splits.proofs.Making.{never-dead}
 use Rattle.rows.specs.Wrote.{further, done-fits, done-length}
 use native.Mathlib.Omega.{arith}
 use mathlib.Core.Path.{refl}
@@ -102,7 +103,7 @@ same-length c = search needs
 -- src/kept.rt:31:1
 returns : tie.Need-returns
 unfolding further
-returns c = record { makes = λ p D k. let h = s-place D in neither-made D k (last-written D (plain D _ (s-place D) (s-apart D 1 (omega arith)) refl (rw (c .before .before .before .before .before .before .before .before .before .before .before .before .w .given .1) at (c .before .before .before .before .before .before .before .before .before .before .before .before .before .before .before .before .equations .ensures))) (rw (c .before .before .before .before .before .v .given .1) at (c .before .before .before .before .before .before .before .before .before .tails-equation .ensures))) _ (omega arith) (s-apart D 0 (omega arith)) (c .before .before .keep .ensures) }
+returns c = never-dead neither-live (λ p D k. let h = s-place D in neither-made D k (last-written D (plain D _ (s-place D) (s-apart D 1 (omega arith)) refl (rw (c .before .before .before .before .before .before .before .before .before .before .before .before .w .given .1) at (c .before .before .before .before .before .before .before .before .before .before .before .before .before .before .before .before .equations .ensures))) (rw (c .before .before .before .before .before .v .given .1) at (c .before .before .before .before .before .before .before .before .before .tails-equation .ensures))) _ (omega arith) (s-apart D 0 (omega arith)) (c .before .before .keep .ensures))
 
 -- src/kept.rt:31:1
 same-length-2 : tie.Need-same-length-2
@@ -111,7 +112,7 @@ same-length-2 c = search needs
 -- src/kept.rt:31:1
 returns-2 : tie.Need-returns-2
 unfolding further
-returns-2 c = record { makes = λ p D k. last-full D k (last-written D (plain D _ (s-place D) (s-apart D 1 (omega arith)) refl (rw (c .before .before .before .before .before .before .before .w .given .1) at (c .before .before .before .before .before .before .before .before .before .before .before .equations .ensures))) (rw (c .enum-told .given .1) at (c .before .before .before .before .tails-equation .ensures))) }
+returns-2 c = never-dead neither-live (λ p D k. last-full D k (last-written D (plain D _ (s-place D) (s-apart D 1 (omega arith)) refl (rw (c .before .before .before .before .before .before .before .w .given .1) at (c .before .before .before .before .before .before .before .before .before .before .before .equations .ensures))) (rw (c .enum-told .given .1) at (c .before .before .before .before .tails-equation .ensures))))
 
 -- src/kept.rt:31:1
 same-length-3 : tie.Need-same-length-3
@@ -119,7 +120,7 @@ same-length-3 c = search needs
 
 -- src/kept.rt:31:1
 returns-3 : tie.Need-returns-3
-returns-3 c = record { makes = λ p D k. news-full D k (plain D _ (s-place D) (s-apart D 1 (omega arith)) refl (rw (c .enum-told2 .given .1) at (c .before .before .before .before .equations .ensures))) }
+returns-3 c = never-dead neither-live (λ p D k. news-full D k (plain D _ (s-place D) (s-apart D 1 (omega arith)) refl (rw (c .enum-told2 .given .1) at (c .before .before .before .before .equations .ensures))))
 
 pub neither-spec : {M : Type 1} → statement M
 neither-spec =

@@ -1,5 +1,5 @@
 use Rattle.splits.proofs.Opening.{numbers}
-use Rattle.splits.proofs.Tailing.{left-value-parts, left-bound-parts, left-made}
+use Rattle.splits.proofs.Tailing.{left-value-parts, left-bound-parts, left-made, tail-kept}
 use native.Mathlib.Omega.{arith}
 use mathlib.Core.Path.{refl}
 use borrow.Author.Needs.{needs}
@@ -64,7 +64,7 @@ same-length c = search needs
 
 -- src/tail.rt:38:1
 returns : tie.Need-returns
-returns c = record { makes = λ p D k. left-made D k (c .before .before .before .before .before .before .lay-value .ensures .0) (c .before .before .before .before .before .before .lay-value .ensures .1) refl (c .before .before .bind-tail .ensures) }
+returns c = record { makes = λ p D k. left-made D k (c .before .before .before .before .before .before .lay-value .ensures .0) (c .before .before .before .before .before .before .lay-value .ensures .1) refl (c .before .before .bind-tail .ensures); kept = λ p D k. tail-kept D _ (c .before .before .before .before .before .before .lay-value .ensures .1) (c .before .before .bind-tail .ensures) }
 
 pub left-spec : {M : Type 1} → statement M
 left-spec =

@@ -1,5 +1,5 @@
 use Rattle.splits.proofs.Opening.{numbers}
-use Rattle.splits.proofs.Tailing.{right-value-parts, right-bound-parts, right-made}
+use Rattle.splits.proofs.Tailing.{right-value-parts, right-bound-parts, right-made, tail-kept}
 use native.Mathlib.Omega.{arith}
 use mathlib.Core.Path.{refl}
 use borrow.Author.Needs.{needs}
@@ -60,7 +60,7 @@ same-length c = search needs
 
 -- src/tail.rt:72:1
 returns : tie.Need-returns
-returns c = record { makes = λ p D k. right-made D k (c .before .before .before .before .before .before .lay-value .ensures .0) (c .before .before .before .before .before .before .lay-value .ensures .1) refl (c .before .before .bind-tail .ensures) }
+returns c = record { makes = λ p D k. right-made D k (c .before .before .before .before .before .before .lay-value .ensures .0) (c .before .before .before .before .before .before .lay-value .ensures .1) refl (c .before .before .bind-tail .ensures); kept = λ p D k. tail-kept D _ (c .before .before .before .before .before .before .lay-value .ensures .1) (c .before .before .bind-tail .ensures) }
 
 pub right-spec : {M : Type 1} → statement M
 right-spec =

@@ -1,0 +1,11 @@
+pub mod Choosing
+pub mod Joining
+pub mod Numbering
+pub mod Only
+pub mod Passing
+pub mod Radices
+pub mod Reading
+pub mod Repicking
+pub mod Splitting
+pub mod Starting
+pub mod Stepping

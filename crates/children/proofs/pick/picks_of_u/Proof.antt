@@ -1,0 +1,21 @@
+use borrow.Author.Needs.{needs}
+use Rattle.children.proofs.Radices.{left-closed, left-opened}
+use Rattle.children.proofs.pick.picks_of_u.Statement.{statement}
+use Rattle.children.proofs.pick.picks_of_u.Tie as tie
+use Rattle.children.proofs.pick.picks_of_u.Reads as reads
+use Rattle.children.proofs.pick.picks_of_u.Lts as lts
+
+-- src/pick.rt:41:57
+add-result : tie.Need-add-result
+add-result c = search needs
+
+-- src/pick.rt:35:1
+returns : tie.Need-returns
+returns c = left-closed _ _ (c .match .keys1)
+
+-- src/pick.rt:35:1
+returns-2 : tie.Need-returns-2
+returns-2 c = left-opened _ _ (c .match .keys2)
+
+pub picks-of-u-spec : {M : Type 1} → statement M
+picks-of-u-spec = tie.close (tie.spec add-result returns returns-2)

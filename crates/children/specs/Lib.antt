@@ -1,0 +1,6 @@
+pub mod Became
+pub mod Next
+pub mod Picks
+pub mod Quiet
+pub mod Single
+pub mod Splitting

@@ -1,0 +1,14 @@
+pub mod Listing
+pub mod Noting
+pub mod Opening
+pub mod Answering
+pub mod Sounding
+pub mod Standing
+pub mod Turning
+pub mod Meeting
+pub mod Entering
+pub mod Hearing
+pub mod Looping
+pub mod Starting
+pub mod Rooting
+pub mod Telling

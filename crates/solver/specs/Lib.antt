@@ -1,0 +1,7 @@
+pub mod Counts
+pub mod Number
+pub mod Passing
+pub mod Path
+pub mod Result
+pub mod Running
+pub mod Start

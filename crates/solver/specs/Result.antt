@@ -1,0 +1,54 @@
+-- What a run gives, and what a call of it gives: limits are tested, then the question, then the room; then the run is that of `search`.
+use Prim.Native.Nat.{ℕ, _+_, _*_}
+use mathlib.Core.Bool.{cond}
+use mathlib.Core.List.{List, []}
+use lib.Dec.{ltb}
+use lib.ListN.{length}
+use Rattle.terms.specs.Bounds.{edition-one}
+use Rattle.terms.specs.Answers.{listed}
+use Rattle.terms.specs.Check.{check-question, after-check}
+use Rattle.terms.specs.Reading.{question-of}
+use Rattle.terms.specs.declared.refusal.Cause.the-variants.{Limit, Buffer}
+use Rattle.terms.specs.declared.refusal.Refusal.{Refusal}
+use Rattle.search.specs.declared.limits.Limits.{Limits}
+use Rattle.search.specs.declared.limits.Lent.{Lent}
+use Rattle.search.specs.declared.limits.Lent.the-variants.{Within, Above}
+use Rattle.search.specs.Lent.{lent}
+use Rattle.search.specs.Run.{Loan, Outcome, ran}
+use Rattle.solver.specs.declared.turn.Ending.{Ending}
+use Rattle.solver.specs.declared.Ran.{Ran}
+use Rattle.solver.specs.declared.Ran.the-variants.{Ended, Refused}
+
+-- the outcome's end and numbers
+unfoldable pub ending : Outcome → Ending
+ending o = record { end = o .end; counts = record { visited = o .visited; answers = length (o .answers); words = length (listed (o .answers)) } }
+
+unfoldable pub loan : Limits → (space : ℕ) → Loan
+loan limits space = record { steps = limits .steps; depth = limits .depth; size = limits .size; space = space }
+
+-- the words that the room must have
+unfoldable pub needed : Limits → ℕ
+needed limits = (limits .depth + 8) * (limits .size + 8)
+
+-- what is told: a refusal, or an outcome
+pub data Told : Type 0 where
+  refuses : Refusal → Told
+  gives : Outcome → Told
+
+unfoldable pub told-within : (unknowns : ℕ) (arities : List ℕ) (equations : ℕ) (words : List ℕ) (space room : ℕ) → Lent → Told
+told-within n arities e ws space room Above = refuses (record { cause = Limit; place = 0 })
+told-within n arities e ws space room (Within limits) =
+    after-check (check-question edition-one n arities e ws) refuses
+    (cond (ltb room (needed limits)) (refuses (record { cause = Buffer; place = needed limits })) (gives (ran edition-one (question-of edition-one n arities ws) (loan limits space))))
+
+unfoldable pub told : (unknowns : ℕ) (arities : List ℕ) (equations : ℕ) (words : List ℕ) (steps depth size space room : ℕ) → Told
+told n arities e ws steps depth size space room = told-within n arities e ws space room (lent steps depth size)
+
+unfoldable pub result : Told → Ran
+result (refuses r) = Refused r
+result (gives o) = Ended (ending o)
+
+-- the words that the lent answer words then begin with
+unfoldable pub words-told : Told → List ℕ
+words-told (refuses r) = []
+words-told (gives o) = listed (o .answers)

@@ -1,0 +1,60 @@
+-- Where a run starts: the root's row, and what is asked of the question and of what is lent.
+use Prim.Native.Nat.{ℕ, _≤_, _<_}
+use mathlib.Core.Path.{_≡_}
+use mathlib.Core.List.{List, [], _∷_}
+use lib.ListN.{length}
+use Rattle.room.specs.Room.{put}
+use Rattle.terms.specs.Bounds.{edition-one}
+use Rattle.terms.specs.Formed.{sides, row, Good}
+use Rattle.terms.specs.Reading.{question-of}
+use Rattle.terms.specs.Answers.{listed}
+use Rattle.search.specs.declared.limits.Limits.{Limits}
+use Rattle.search.specs.State.{State, state-size}
+use Rattle.search.specs.Run.{Outcome, visit, ran}
+use Rattle.promises.specs.States.Orderly.{Orderly}
+use Rattle.turns.specs.Going.{to-come}
+use Rattle.rows.specs.Row.{Fresh}
+use Rattle.rows.specs.Header.{header-of}
+use Rattle.solver.specs.declared.running.Record.{Record}
+use Rattle.solver.specs.Result.{loan, ending}
+use Rattle.solver.specs.Running.{Suits, Given, given, remains}
+
+-- the room with the root's row: the question's words are pending
+unfoldable pub rooted : List ℕ → List ℕ → ℕ → List ℕ
+rooted l ws unknowns = put (put l 8 ws) 0 (header-of (record { pending = length ws; pile = 0; body = length ws; bindings = 0; next = unknowns }))
+
+-- nothing is counted yet
+abbrev pub nothing : Record
+nothing = record { visited = 0; answers = 0; words = 0 }
+
+pub record Asking (unknowns : ℕ) (arities ws : List ℕ) (limits : Limits) (l : List ℕ) : Type 0 where
+  pub suits : Suits arities limits l
+  pub good : Good edition-one (question-of edition-one unknowns arities ws)
+  pub worded : row edition-one (sides (question-of edition-one unknowns arities ws .equations)) ≡ ws
+
+abbrev pub outcome : (unknowns : ℕ) (arities ws : List ℕ) (limits : Limits) (space : ℕ) → Outcome
+outcome unknowns arities ws limits space = ran edition-one (question-of edition-one unknowns arities ws) (loan limits space)
+
+-- what the run gives: its end and numbers, and the answer words with the list at their start
+unfoldable pub whole-run : (unknowns : ℕ) (arities ws : List ℕ) (limits : Limits) (a : List ℕ) → Given
+whole-run unknowns arities ws limits a = record {
+  ending = ending (outcome unknowns arities ws limits (length a));
+  answers = put a 0 (listed ((outcome unknowns arities ws limits (length a)) .answers));
+}
+
+-- the limits are within their bounds
+pub record Bounded (limits : Limits) : Type 0 where
+  pub steps : limits .steps ≤ 1000000000
+  pub depth : limits .depth ≤ 1024
+  pub size : limits .size ≤ 8192
+
+-- the root's row is written, and it is the first node that the run visits
+pub record Rooted (arities : List ℕ) (limits : Limits) (l a : List ℕ) (to : Given) : Type 0 where
+  pub suits : Suits arities limits l
+  pub root : State
+  pub fresh : Fresh edition-one l 0 root
+  pub small : state-size root ≤ limits .size
+  pub few : root .next ≤ edition-one .path-unknowns
+  pub orderly : Orderly arities root
+  pub some : 0 < limits .steps
+  pub gives : to ≡ given nothing a (remains limits nothing (length a) (visit 0 root ∷ to-come (limits .depth) (record { state = root; child = 0 } ∷ [])))

@@ -1,0 +1,169 @@
+// How the whole tree is visited within limits: the rows of the path stand in the lent room, and a loop takes one turn after the other.
+//
+//     running    the running record, and the answers listed
+//     path       the rows of the path
+//     turn       one turn, and the loop
+//
+// In specs/, `Result` says what a run gives for any input; `Running` is the loop's invariant, over `Path` and `Counts`; `Passing` has the laws of
+// dead ends passed at once.
+ghost use mathlib.Core.Path.{_≡_};
+ghost use lib.ListN.{length};
+ghost use Rattle.room.specs.Room.{put};
+ghost use Rattle.terms.specs.declared.refusal.Refusal.{Refusal as Why};
+ghost use Rattle.search.specs.declared.limits.Lent.the-variants as lents;
+ghost use Rattle.solver.specs.Result.{told, told-within, refuses, result, words-told};
+ghost use Rattle.solver.specs.Running.{Given, Ends};
+ghost use Rattle.solver.specs.Start.{Asking, Bounded, Rooted, whole-run};
+
+pub mod path;
+pub mod running;
+pub mod turn;
+
+use path::write_root;
+use rows::header::HEADER;
+use running::Noted;
+use running::Record;
+use running::note;
+use running::with_nodes;
+use search::ends::End;
+use search::limits::Lent;
+use search::limits::Limits;
+use terms::check::check_question;
+use terms::refusal::Cause;
+use terms::refusal::Checked;
+use terms::refusal::Refusal;
+use turn::Ending;
+use turn::search_on;
+
+// What a run answers.
+pub enum Ran {
+    Ended(Ending),
+    Refused(Refusal),
+}
+
+// The root is open: its answer is noted, and the search goes on from its row.
+fn enter_root(arities: &[u8], limits: Limits, answers: &mut [u16], room: &mut [u16]) -> Ending
+    requires { ⌜ ((to : Given) × Rooted (now arities) limits (now room) (now answers) to) ⌝ }
+    ensures { λ r. ⌜ ((to : Given) → Rooted (now (arities .entry)) limits (now (room .entry)) (now (answers .entry)) to → Ends to r (now (answers .exit))) ⌝ }
+{
+    let one = with_nodes(
+        Record {
+            visited: 0,
+            answers: 0,
+            words: 0,
+        },
+        1,
+    );
+    let end = limits.size + HEADER;
+    match note(&room[..end], answers, one) {
+        Noted::Held(noted) => search_on(arities, limits, answers, room, noted),
+        Noted::Space => Ending {
+            end: End::Space,
+            counts: one,
+        },
+    }
+}
+
+// The run of a good question in a room that is large enough.
+fn start(
+    unknowns: usize,
+    arities: &[u8],
+    words: &[u16],
+    limits: Limits,
+    answers: &mut [u16],
+    room: &mut [u16],
+) -> Ending
+    requires { ⌜ Asking unknowns (now arities) (now words) limits (now room) ⌝ }
+    ensures { λ r. ⌜ Ends (whole-run unknowns (now (arities .entry)) (now (words .entry)) limits (now (answers .entry))) r (now (answers .exit)) ⌝ }
+{
+    let counts = Record {
+        visited: 0,
+        answers: 0,
+        words: 0,
+    };
+    if limits.steps == 0 {
+        return Ending {
+            end: End::Steps,
+            counts,
+        };
+    }
+    if limits.size < words.len() {
+        return Ending {
+            end: End::Size,
+            counts,
+        };
+    }
+    write_root(room, words, unknowns);
+    enter_root(arities, limits, answers, room)
+}
+
+// The question is tested, then the room.
+fn run_within(
+    unknowns: usize,
+    arities: &[u8],
+    equations: usize,
+    words: &[u16],
+    limits: Limits,
+    answers: &mut [u16],
+    room: &mut [u16],
+) -> Ran
+    requires { ⌜ Bounded limits ⌝ }
+    ensures { λ r. ⌜ r ≡ result (told-within unknowns (now (arities .entry)) equations (now (words .entry)) (length (now (answers .entry))) (length (now (room .entry))) (lents.Within limits)) ⌝ }
+    ensures { λ _. ⌜ now (answers .exit) ≡ put (now (answers .entry)) 0 (words-told (told-within unknowns (now (arities .entry)) equations (now (words .entry)) (length (now (answers .entry))) (length (now (room .entry))) (lents.Within limits))) ⌝ }
+    ensures { λ _. ⌜ ((why : Why) → told-within unknowns (now (arities .entry)) equations (now (words .entry)) (length (now (answers .entry))) (length (now (room .entry))) (lents.Within limits) ≡ refuses why → now (room .exit) ≡ now (room .entry)) ⌝ }
+{
+    match check_question(unknowns, arities, equations, words) {
+        Checked::Refused(refusal) => Ran::Refused(refusal),
+        Checked::Fine => {
+            let needed = (limits.depth + 8) * (limits.size + 8);
+            if room.len() < needed {
+                return Ran::Refused(Refusal {
+                    cause: Cause::Buffer,
+                    place: needed,
+                });
+            }
+            Ran::Ended(start(
+                unknowns,
+                arities,
+                words,
+                limits,
+                answers,
+                &mut room[..needed],
+            ))
+        }
+    }
+}
+
+// A run: the limits are tested, then the question, then the room. Its end and numbers come back, and the answer words begin with the answers listed; or a
+// refusal, and every lent word is as it was.
+pub fn run(
+    unknowns: usize,
+    arities: &[u8],
+    equations: usize,
+    words: &[u16],
+    steps: u64,
+    depth: usize,
+    size: usize,
+    answers: &mut [u16],
+    room: &mut [u16],
+) -> Ran
+    ensures { λ r. ⌜ r ≡ result (told unknowns (now (arities .entry)) equations (now (words .entry)) steps depth size (length (now (answers .entry))) (length (now (room .entry)))) ⌝ }
+    ensures { λ _. ⌜ now (answers .exit) ≡ put (now (answers .entry)) 0 (words-told (told unknowns (now (arities .entry)) equations (now (words .entry)) steps depth size (length (now (answers .entry))) (length (now (room .entry))))) ⌝ }
+    ensures { λ _. ⌜ ((why : Why) → told unknowns (now (arities .entry)) equations (now (words .entry)) steps depth size (length (now (answers .entry))) (length (now (room .entry))) ≡ refuses why → now (room .exit) ≡ now (room .entry)) ⌝ }
+{
+    match Limits::new(steps, depth, size) {
+        Lent::Within(limits) => run_within(
+            unknowns,
+            arities,
+            equations,
+            words,
+            limits,
+            answers,
+            room,
+        ),
+        Lent::Above => Ran::Refused(Refusal {
+            cause: Cause::Limit,
+            place: 0,
+        }),
+    }
+}
