@@ -1,13 +1,81 @@
 //! The protocol of the test driver: one case a line, fields separated by TAB, without its result; one result a line.
 
-use crate::equality::{equal, solves};
-use crate::search::{check_limits, search, Loan};
+use crate::equality;
+use crate::search::{self, Loan, Outcome};
 use crate::terms::*;
-use crate::text::reader::read;
-use crate::text::writers::{write_answers, write_question, AnswerList};
+use crate::text::writers::AnswerList;
+use crate::text::{reader, writers};
+use std::io::{BufRead, Write};
+
+/// What cases are put to: the oracle, or whatever else has these entries.
+pub trait Entries {
+    fn read_question(&mut self, text: &[u8]) -> Result<Question, Refusal>;
+    fn check_limits(&mut self, loan: &Loan) -> Result<(), Refusal>;
+    /// A run of a good question within the limits.
+    fn run(&mut self, question: &Question, loan: &Loan) -> Result<Outcome, Refusal>;
+    fn write_question(&mut self, question: &Question, capacity: usize) -> Result<Vec<u8>, Refusal>;
+    fn write_answers(&mut self, list: &AnswerList, capacity: usize) -> Result<Vec<u8>, Refusal>;
+    fn equal(&mut self, arities: &[u8], row: &[u16]) -> Result<bool, Refusal>;
+    fn solves(&mut self, question: &Question, row: &[u16]) -> Result<bool, Refusal>;
+}
+
+pub struct Oracle;
+
+impl Entries for Oracle {
+    fn read_question(&mut self, text: &[u8]) -> Result<Question, Refusal> {
+        reader::read(text)
+    }
+
+    fn check_limits(&mut self, loan: &Loan) -> Result<(), Refusal> {
+        search::check_limits(loan)
+    }
+
+    fn run(&mut self, question: &Question, loan: &Loan) -> Result<Outcome, Refusal> {
+        Ok(search::search(question, loan))
+    }
+
+    fn write_question(&mut self, question: &Question, capacity: usize) -> Result<Vec<u8>, Refusal> {
+        writers::write_question(question, capacity)
+    }
+
+    fn write_answers(&mut self, list: &AnswerList, capacity: usize) -> Result<Vec<u8>, Refusal> {
+        writers::write_answers(list, capacity)
+    }
+
+    fn equal(&mut self, arities: &[u8], row: &[u16]) -> Result<bool, Refusal> {
+        equality::equal(arities, row)
+    }
+
+    fn solves(&mut self, question: &Question, row: &[u16]) -> Result<bool, Refusal> {
+        equality::solves(question, row)
+    }
+}
+
+/// One result a line, until a malformed case.
+pub fn answer_all(
+    entries: &mut impl Entries,
+    input: impl BufRead,
+    output: &mut impl Write,
+) -> Result<(), String> {
+    for (index, line) in input.split(b'\n').enumerate() {
+        let line = line.map_err(|cause| cause.to_string())?;
+        let outcome = match std::str::from_utf8(&line) {
+            Ok(case) => result(entries, case),
+            Err(_) => Err("the line is no text".to_string()),
+        };
+        match outcome {
+            Ok(result) => writeln!(output, "{result}").map_err(|cause| cause.to_string())?,
+            Err(cause) => {
+                output.flush().map_err(|cause| cause.to_string())?;
+                return Err(format!("line {}: malformed case: {cause}", index + 1));
+            }
+        }
+    }
+    output.flush().map_err(|cause| cause.to_string())
+}
 
 /// The result of a case, or what is malformed in it.
-pub fn result(case: &str) -> Result<String, String> {
+pub fn result(entries: &mut impl Entries, case: &str) -> Result<String, String> {
     let fields: Vec<&str> = case.split('\t').collect();
     let due = match fields[0] {
         "text" => 2,
@@ -25,9 +93,11 @@ pub fn result(case: &str) -> Result<String, String> {
         ));
     }
     let given = match fields[0] {
-        "text" => text_case(&fields)?,
-        "run" => run_case(&fields)?,
-        "writeq" => write_question(&question(&fields)?, number(fields[5])?).map(ok_bytes),
+        "text" => entries.read_question(&bytes(fields[1])?).map(ok_question),
+        "run" => run_case(entries, &fields)?,
+        "writeq" => entries
+            .write_question(&question(&fields)?, number(fields[5])?)
+            .map(ok_bytes),
         "writel" => {
             let list = AnswerList {
                 arities: numbers(fields[1])?,
@@ -36,30 +106,30 @@ pub fn result(case: &str) -> Result<String, String> {
                 answers: number(fields[4])?,
                 words: numbers(fields[5])?,
             };
-            write_answers(&list, number(fields[6])?).map(ok_bytes)
+            entries
+                .write_answers(&list, number(fields[6])?)
+                .map(ok_bytes)
         }
-        "equal" => equal(&numbers(fields[1])?, &numbers(fields[2])?)
+        "equal" => entries
+            .equal(&numbers(fields[1])?, &numbers(fields[2])?)
             .map(|same| if same { "equal" } else { "differ" }.to_string()),
-        _ => solves(&question(&fields)?, &numbers(fields[5])?)
+        _ => entries
+            .solves(&question(&fields)?, &numbers(fields[5])?)
             .map(|yes| if yes { "yes" } else { "no" }.to_string()),
     };
     Ok(given.unwrap_or_else(|Refusal { number, place }| format!("refused {number} {place}")))
 }
 
-fn text_case(fields: &[&str]) -> Result<Result<String, Refusal>, String> {
-    Ok(read(&bytes(fields[1])?).map(|q| {
-        format!(
-            "ok {}|{}|{}|{}",
-            q.unknowns,
-            joined(&q.arities),
-            q.equations,
-            joined(&q.words)
-        )
-    }))
+fn ok_question(q: Question) -> String {
+    let (arities, words) = (joined(&q.arities), joined(&q.words));
+    format!("ok {}|{arities}|{}|{words}", q.unknowns, q.equations)
 }
 
 /// The limits are tested before the text is read.
-fn run_case(fields: &[&str]) -> Result<Result<String, Refusal>, String> {
+fn run_case(
+    entries: &mut impl Entries,
+    fields: &[&str],
+) -> Result<Result<String, Refusal>, String> {
     let loan = Loan {
         steps: number(fields[1])?,
         depth: number(fields[2])?,
@@ -67,10 +137,11 @@ fn run_case(fields: &[&str]) -> Result<Result<String, Refusal>, String> {
         space: number(fields[4])?,
     };
     let text = bytes(fields[5])?;
-    Ok(check_limits(&loan)
-        .and_then(|()| read(&text))
-        .map(|question| {
-            let outcome = search(&question, &loan);
+    Ok(entries
+        .check_limits(&loan)
+        .and_then(|()| entries.read_question(&text))
+        .and_then(|question| entries.run(&question, &loan))
+        .map(|outcome| {
             let words = match outcome.words.as_slice() {
                 [] => "-".to_string(),
                 words => joined(words),

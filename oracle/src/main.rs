@@ -1,7 +1,7 @@
 //! The command line: `oracle cases | solve | generate SEED COUNT | check SEED COUNT | edges`.
 
-use oracle::cases;
-use std::io::{BufRead, Read, Write};
+use oracle::cases::{self, Oracle};
+use std::io::{Read, Write};
 use std::process::ExitCode;
 
 const USAGE: &str = "usage: oracle cases | solve | generate SEED COUNT | check SEED COUNT | edges";
@@ -23,17 +23,12 @@ fn command() -> Result<(), String> {
         ["cases"] => run_cases(),
         ["solve"] => solve(),
         ["generate", seed, count] => {
-            let cases = oracle::generate::cases(number(seed)?, number(count)? as usize);
-            print_lines(&cases)
+            print_lines(oracle::generate::cases(number(seed)?, number(count)?))
         }
         ["check", seed, count] => check(number(seed)?, number(count)?),
         ["edges"] => {
-            let edges = oracle::edges::edges();
-            let lines: Vec<String> = edges
-                .iter()
-                .map(|edge| format!("{}\t{}", edge.case, edge.result))
-                .collect();
-            print_lines(&lines)
+            let edges = oracle::edges::edges().into_iter();
+            print_lines(edges.map(|edge| format!("{}\t{}", edge.case, edge.result)))
         }
         _ => Err(USAGE.to_string()),
     }
@@ -43,7 +38,7 @@ fn number(word: &str) -> Result<u64, String> {
     word.parse().map_err(|_| USAGE.to_string())
 }
 
-fn print_lines(lines: &[String]) -> Result<(), String> {
+fn print_lines(lines: impl Iterator<Item = String>) -> Result<(), String> {
     let mut output = std::io::BufWriter::new(std::io::stdout().lock());
     for line in lines {
         writeln!(output, "{line}").map_err(|cause| cause.to_string())?;
@@ -58,26 +53,9 @@ fn check(seed: u64, count: u64) -> Result<(), String> {
     Ok(())
 }
 
-/// One result a line, until a malformed case.
 fn run_cases() -> Result<(), String> {
     let mut output = std::io::BufWriter::new(std::io::stdout().lock());
-    for (index, line) in std::io::stdin().lock().split(b'\n').enumerate() {
-        let line = line.map_err(|cause| cause.to_string())?;
-        let outcome = match std::str::from_utf8(&line) {
-            Ok(case) => cases::result(case),
-            Err(_) => Err("the line is no text".to_string()),
-        };
-        match outcome {
-            Ok(result) => {
-                writeln!(output, "{result}").map_err(|cause| cause.to_string())?;
-            }
-            Err(cause) => {
-                output.flush().map_err(|cause| cause.to_string())?;
-                return Err(format!("line {}: malformed case: {cause}", index + 1));
-            }
-        }
-    }
-    output.flush().map_err(|cause| cause.to_string())
+    cases::answer_all(&mut Oracle, std::io::stdin().lock(), &mut output)
 }
 
 fn solve() -> Result<(), String> {

@@ -5,17 +5,15 @@ use crate::terms::*;
 pub struct Random(u64);
 
 impl Random {
+    /// Seeds are mixed, so that those of neighbours begin at unrelated places of the one long sequence.
     pub fn new(seed: u64) -> Random {
-        Random(seed.wrapping_mul(0x9e37_79b9_7f4a_7c15))
+        Random(mix(seed))
     }
 
     /// The next number of the sequence known as SplitMix64.
     pub fn draw(&mut self) -> u64 {
         self.0 = self.0.wrapping_add(0x9e37_79b9_7f4a_7c15);
-        let mut mixed = self.0;
-        mixed = (mixed ^ (mixed >> 30)).wrapping_mul(0xbf58_476d_1ce4_e5b9);
-        mixed = (mixed ^ (mixed >> 27)).wrapping_mul(0x94d0_49bb_1331_11eb);
-        mixed ^ (mixed >> 31)
+        mix(self.0)
     }
 
     /// A number below `bound`, which is at least 1.
@@ -43,6 +41,14 @@ impl Random {
     }
 }
 
+/// SplitMix64's finaliser.
+fn mix(number: u64) -> u64 {
+    let mut mixed = number;
+    mixed = (mixed ^ (mixed >> 30)).wrapping_mul(0xbf58_476d_1ce4_e5b9);
+    mixed = (mixed ^ (mixed >> 27)).wrapping_mul(0x94d0_49bb_1331_11eb);
+    mixed ^ (mixed >> 31)
+}
+
 /// Random arities: mostly three constants, a functor of one argument and one of two.
 pub fn arities(random: &mut Random) -> Vec<u8> {
     match random.below(10) {
@@ -64,7 +70,20 @@ pub struct Maker<'a> {
     pub arities: &'a [u8],
 }
 
-impl Maker<'_> {
+impl<'a> Maker<'a> {
+    pub fn new(random: &'a mut Random, unknowns: u16, arities: &'a [u8]) -> Maker<'a> {
+        Maker {
+            random,
+            unknowns,
+            arities,
+        }
+    }
+
+    /// A maker of ground terms.
+    pub fn ground(random: &'a mut Random, arities: &'a [u8]) -> Maker<'a> {
+        Maker::new(random, 0, arities)
+    }
+
     /// A term of about `budget` symbols.
     pub fn term(&mut self, budget: usize) -> Term {
         if budget <= 1 {
@@ -168,11 +187,7 @@ pub fn small_question(random: &mut Random, budget: usize) -> Question {
     let count = *random.pick(&[0, 1, 1, 1, 1, 2, 2, 2, 3, 4]);
     let mut equations = Vec::new();
     for _ in 0..count {
-        let mut maker = Maker {
-            random,
-            unknowns,
-            arities: &arities,
-        };
+        let mut maker = Maker::new(random, unknowns, &arities);
         let left = maker.term(budget);
         let right = maker.term(budget);
         equations.push((left, right));
@@ -188,11 +203,7 @@ pub fn rich_question(random: &mut Random) -> Question {
     for _ in 0..random.between(1, 4) {
         let first = Term::unknown(random.below(usize::from(unknowns)) as u16);
         let second = Term::unknown(random.below(usize::from(unknowns)) as u16);
-        let mut maker = Maker {
-            random,
-            unknowns,
-            arities: &arities,
-        };
+        let mut maker = Maker::new(random, unknowns, &arities);
         let mut members = || -> Vec<Term> {
             let count = *maker.random.pick(&[1, 1, 1, 2]);
             (0..count)

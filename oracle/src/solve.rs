@@ -26,12 +26,5 @@ pub fn solve(text: &[u8]) -> Vec<u8> {
 fn answer(text: &[u8]) -> Result<Vec<u8>, Refusal> {
     let question = read(text)?;
     let outcome = search(&question, &LOAN);
-    let list = AnswerList {
-        arities: question.arities,
-        end: outcome.end,
-        visited: outcome.visited,
-        answers: outcome.answers,
-        words: outcome.words,
-    };
-    write_answers(&list, usize::MAX)
+    write_answers(&AnswerList::of(question.arities, outcome), usize::MAX)
 }

@@ -1,6 +1,6 @@
 //! The corpus: cases written by hand with the results that document 01 asks for, and generated ones.
 
-mod common;
+use oracle::cases::{result, Oracle};
 
 const EDGES: &str = include_str!("../corpus/edges.tsv");
 const GENERATED: &str = include_str!("../corpus/generated.tsv");
@@ -9,7 +9,7 @@ const GENERATED: &str = include_str!("../corpus/generated.tsv");
 fn edges_are_what_the_paper_asks_for() {
     oracle::on_deep_stack(|| {
         for edge in oracle::edges::edges() {
-            let given = oracle::cases::result(&edge.case).expect("a case");
+            let given = result(&mut Oracle, &edge.case).expect("a case");
             assert_eq!(given, edge.result, "{}: {}", edge.why, edge.case);
         }
     });
@@ -25,9 +25,19 @@ fn the_file_of_edges_is_theirs() {
     assert_eq!(lines.next(), None);
 }
 
+/// The recipe of README.md once more: fresh cases without the longest ones, each with its result.
 #[test]
-fn generated_cases_keep_their_results() {
-    assert!(common::hold_against("corpus/generated.tsv", GENERATED) >= 2900);
+fn the_file_of_generated_cases_follows_its_recipe() {
+    oracle::on_deep_stack(|| {
+        let mut lines = GENERATED.lines();
+        for case in oracle::generate::cases(1, 3060).filter(|case| case.len() < 1200) {
+            let line = format!("{case}\t{}", result(&mut Oracle, &case).expect("a case"));
+            if line.len() < 1500 {
+                assert_eq!(lines.next(), Some(line.as_str()));
+            }
+        }
+        assert_eq!(lines.next(), None);
+    });
 }
 
 /// The gate runs the corpus under an emulator, so no search in it is long; and every end and refusal is met.
@@ -66,5 +76,6 @@ fn the_corpus_is_broad_and_short() {
             );
         }
     }
+    assert!(GENERATED.lines().count() >= 2900);
     assert!(EDGES.len() + GENERATED.len() < 1_000_000);
 }

@@ -1,6 +1,7 @@
 //! Demands 2 and 3 by trial, the fast search against the plain one, equality against 01's own sentence,
 //! and that no input makes anything panic.
 
+use oracle::cases::{result, Oracle};
 use oracle::check::check;
 use oracle::equality::Values;
 use oracle::random::{arities, Maker, Random};
@@ -12,6 +13,16 @@ fn values_solve_exactly_if_they_fit_an_answer() {
     assert_eq!(tally.questions, 400);
     assert!(tally.done > 250 && tally.solving > 10_000, "{tally:?}");
     assert!(tally.ends.iter().all(|&met| met > 50), "{tally:?}");
+}
+
+/// Whoever wants more cases counts the seed up.
+#[test]
+fn nearby_seeds_are_unrelated() {
+    let mut drawn = std::collections::HashSet::new();
+    for seed in 0..300 {
+        let mut random = Random::new(seed);
+        assert!((0..300).all(|_| drawn.insert(random.draw())), "{seed}");
+    }
 }
 
 /// Document 01: the kernels must both be empty sets, or the same functor with equal arguments; and each member
@@ -40,11 +51,7 @@ fn numbers_agree_with_the_sentence() {
     for _ in 0..4000 {
         let arities = arities(&mut random);
         let budget = random.between(1, 12);
-        let mut maker = Maker {
-            random: &mut random,
-            unknowns: 0,
-            arities: &arities,
-        };
+        let mut maker = Maker::ground(&mut random, &arities);
         let left = maker.term(budget);
         let same = maker.rewritten(&left);
         let other = maker.term(budget);
@@ -62,7 +69,7 @@ fn numbers_agree_with_the_sentence() {
 fn fresh_cases_have_results() {
     oracle::on_deep_stack(|| {
         for case in oracle::generate::cases(77, 3000) {
-            oracle::cases::result(&case).expect("a case");
+            result(&mut Oracle, &case).expect("a case");
         }
     });
 }
@@ -87,7 +94,7 @@ fn malformed_cases_are_told() {
         "writel\t0\t0\t0\t0\t0\t",
         "other\t1",
     ] {
-        assert!(oracle::cases::result(case).is_err(), "{case:?}");
+        assert!(result(&mut Oracle, case).is_err(), "{case:?}");
     }
 }
 

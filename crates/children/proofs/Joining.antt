@@ -32,16 +32,16 @@ some-entry [] n = absurd (n refl)
 some-entry (n ∷ ns) q = record { first = n; others = ns; cut = refl }
 
 -- the children of a state in which nothing is pending
-no-joined : (st : State) → st .pending ≡ [] → st .pile ≡ [] → children st ≡ []
+pub no-joined : (st : State) → st .pending ≡ [] → st .pile ≡ [] → children st ≡ []
 unfolding children children-by join
 no-joined st q p = rw (q, p)
 
 -- the pile's first unknown bound to its members
-abbrev heir : State → ℕ → Node
+abbrev pub heir : State → ℕ → Node
 heir st x =
     bound x (over (joined x (st .pile)) (unknown (st .next))) (renewed (record { pending = []; pile = others x (st .pile); bindings = st .bindings; next = st .next }))
 
-one-joined : (st : State) {n : Named} {ns : List Named} → st .pending ≡ [] → st .pile ≡ n ∷ ns → children st ≡ heir st (n .name) ∷ []
+pub one-joined : (st : State) {n : Named} {ns : List Named} → st .pending ≡ [] → st .pile ≡ n ∷ ns → children st ≡ heir st (n .name) ∷ []
 unfolding children children-by join
 one-joined st q p = rw (q, p)
 

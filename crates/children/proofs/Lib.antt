@@ -9,3 +9,4 @@ pub mod Repicking
 pub mod Splitting
 pub mod Starting
 pub mod Stepping
+pub mod Leaving

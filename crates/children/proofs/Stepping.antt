@@ -28,7 +28,7 @@ use Rattle.children.proofs.Only.{only-passed, only-due, only-made}
 use Rattle.children.proofs.Reading.{lent-part, held, pending-within, first-sizes, children-by-first}
 
 -- a step that is no split has one child
-only-one : (k : Step) (t u : Term) (st : State) → ((j : Tails) → k ≡ Split j → ⊥) → ((node : Node) × search.take k t u st ≡ node ∷ [])
+pub only-one : (k : Step) (t u : Term) (st : State) → ((j : Tails) → k ≡ Split j → ⊥) → ((node : Node) × search.take k t u st ≡ node ∷ [])
 unfolding search.take
 only-one Drop t u st n = (_, refl)
 only-one (Bind k) t u st n = (_, refl)

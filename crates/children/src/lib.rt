@@ -25,8 +25,8 @@ use rows::header::HEADER;
 use search::steps::Step;
 use single::step_on;
 
-// The children of the row at `at` from `number` on: at most so many dead ends are passed.
-pub fn next_child(
+// The same, by the kind of the row: nothing is pending, or its first equation is a split, or it leaves no choice.
+fn find_child(
     arities: &[u8],
     room: &mut [u16],
     at: usize,
@@ -76,4 +76,26 @@ pub fn next_child(
             most,
         ),
     }
+}
+
+// The children of the row at `at` from `number` on: at most so many dead ends are passed. Only a split has a second child, and its row's body begins with a
+// member mark: most rows whose first child was made are left at a glance.
+pub fn next_child(
+    arities: &[u8],
+    room: &mut [u16],
+    at: usize,
+    number: usize,
+    size: usize,
+    scratch: usize,
+    most: usize,
+) -> Next
+    requires { ⌜ ((st : State) × Ready (now arities) (now room) at number size scratch most st) ⌝ }
+    ensures { λ r. ⌜ ((st : State) → Ready (now (arities .entry)) (now (room .entry)) at number size scratch most st → Child (now (room .entry)) at number size most st r (now (room .exit))) ⌝ }
+{
+    if 0 < number {
+        if room[at + HEADER] != 1 {
+            return Next::Spent(0);
+        }
+    }
+    find_child(arities, room, at, number, size, scratch, most)
 }

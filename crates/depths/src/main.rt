@@ -1,12 +1,17 @@
-// Deep and wide ground terms, to see that the test of equality comes back and how it answers. Standard input has two terms a line, in prefix letters: 1 is
-// member adding, 0 the empty set, any other letter the functor with the letter's number; g has one argument and p has two. Each answer is a line.
-ghost use Prim.Native.Nat.{_≤_};
-ghost use lib.ListN.{length};
+// Deep and wide terms, to see that both tests come back and how they answer. Standard input has two ground terms a line, or, where the line has a bar, an
+// equation over the unknowns x and y, the bar, and their values. Letters are in prefix order: 1 is member adding, 0 the empty set, any other letter the
+// functor with the letter's number; g has one argument and p has two. Each answer is a line.
 use same::Equality;
+use same::Solving;
 use same::equal;
+use same::solves;
+use terms::refusal::Refusal;
 use terms::refusal::number_of;
 
 const LINE_END: u8 = 10;
+
+// the word of the letter |
+const BAR: u16 = 2124;
 
 fn word_of(letter: u8) -> u16 {
     if letter == b'0' {
@@ -15,14 +20,27 @@ fn word_of(letter: u8) -> u16 {
     if letter == b'1' {
         return 1;
     }
+    if letter == b'x' {
+        return 1000;
+    }
+    if letter == b'y' {
+        return 1001;
+    }
     2000 + letter as u16
 }
 
-fn tell(row: &[u16]) {
-    let mut arities = [0u8; 256];
-    arities[103] = 1;
-    arities[112] = 2;
-    match equal(&arities, row) {
+fn tell_refusal(refusal: Refusal) {
+    let cause = refusal.cause;
+    let place = refusal.place;
+    io::write_all(1, b"refused ");
+    io::print_decimal(1, number_of(cause) as u64);
+    io::write_all(1, b" ");
+    io::print_decimal(1, place as u64);
+    io::write_all(1, b"\n");
+}
+
+fn tell_equal(arities: &[u8], row: &[u16]) {
+    match equal(arities, row) {
         Equality::Equal => {
             io::write_all(1, b"equal\n");
         }
@@ -30,18 +48,50 @@ fn tell(row: &[u16]) {
             io::write_all(1, b"differ\n");
         }
         Equality::Refused(refusal) => {
-            let cause = refusal.cause;
-            let place = refusal.place;
-            io::write_all(1, b"refused ");
-            io::print_decimal(1, number_of(cause) as u64);
-            io::write_all(1, b" ");
-            io::print_decimal(1, place as u64);
-            io::write_all(1, b"\n");
+            tell_refusal(refusal);
         }
     }
 }
 
-// A line longer than a row may be is cut after one word too many.
+fn tell_solving(arities: &[u8], words: &[u16], row: &[u16]) {
+    match solves(2, arities, 1, words, row) {
+        Solving::Yes => {
+            io::write_all(1, b"yes\n");
+        }
+        Solving::No => {
+            io::write_all(1, b"no\n");
+        }
+        Solving::Refused(refusal) => {
+            tell_refusal(refusal);
+        }
+    }
+}
+
+// The place of the bar, or the length.
+fn bar(line: &[u16]) -> usize {
+    let mut i: usize = 0;
+    while i < line.len() {
+        if line[i] == BAR {
+            return i;
+        }
+        i += 1;
+    }
+    i
+}
+
+fn tell(line: &[u16]) {
+    let mut arities = [0u8; 256];
+    arities[103] = 1;
+    arities[112] = 2;
+    let k = bar(line);
+    if k < line.len() {
+        tell_solving(&arities, &line[..k], &line[k + 1..]);
+    } else {
+        tell_equal(&arities, line);
+    }
+}
+
+// A line longer than a question, the bar and a row may be is cut.
 fn tell_lines(text: &[u8], row: &mut [u16]) {
     let mut n: usize = 0;
     let mut i: usize = 0;
@@ -63,7 +113,7 @@ fn tell_lines(text: &[u8], row: &mut [u16]) {
 
 fn main() {
     let mut text = io::large_buffer();
-    let mut row = [0u16; 4097];
+    let mut row = [0u16; 8193];
     let n = io::read_full(0, &mut text);
     tell_lines(&text[..n], &mut row);
 }

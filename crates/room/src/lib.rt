@@ -67,12 +67,40 @@ pub enum Copied {
     Full,
 }
 
-// Copies the n words at `from` to the place `to`, with the m words at `by` for each word x, in at most `capacity` words.
-// Where these do not suffice, what comes before the first word that does not fit is written, and the answer is Full.
+// `replace` of one word.
+fn replace_word(
+    room: &mut [u16],
+    from: usize,
+    x: u16,
+    by: usize,
+    m: usize,
+    to: usize,
+    capacity: usize,
+) -> Copied
+    requires { ⌜ ReplaceParts (now room) from 1 by m to capacity ⌝ }
+    ensures { λ r. ⌜ r ≡ told capacity (replaced x (seg (now (room .entry)) by m) (seg (now (room .entry)) from 1)) ⌝ }
+    ensures { λ _. ⌜ now (room .exit) ≡ put (now (room .entry)) to (fitting x (seg (now (room .entry)) by m) capacity (seg (now (room .entry)) from 1)) ⌝ }
+{
+    let w = room[from];
+    if w == x {
+        if capacity < m {
+            return Copied::Full;
+        }
+        copy(room, by, m, to);
+        return Copied::Done(m);
+    }
+    if capacity < 1 {
+        return Copied::Full;
+    }
+    room[to] = w;
+    Copied::Done(1)
+}
+
+// `replace` of any number of words.
 //
 // A run of words that are not x is copied at one go, no longer than the capacity allows, so that a word costs one
 // comparison with x and one with the run's bound. It ends at the last word, at an x, or where the capacity does.
-pub fn replace(
+fn replace_all(
     room: &mut [u16],
     from: usize,
     n: usize,
@@ -111,4 +139,27 @@ pub fn replace(
         read += 1;
         written += m;
     }
+}
+
+// Copies the n words at `from` to the place `to`, with the m words at `by` for each word x, in at most `capacity` words.
+// Where these do not suffice, what comes before the first word that does not fit is written, and the answer is Full. Many terms
+// are one word, which needs no loop.
+pub fn replace(
+    room: &mut [u16],
+    from: usize,
+    n: usize,
+    x: u16,
+    by: usize,
+    m: usize,
+    to: usize,
+    capacity: usize,
+) -> Copied
+    requires { ⌜ ReplaceParts (now room) from n by m to capacity ⌝ }
+    ensures { λ r. ⌜ r ≡ told capacity (replaced x (seg (now (room .entry)) by m) (seg (now (room .entry)) from n)) ⌝ }
+    ensures { λ _. ⌜ now (room .exit) ≡ put (now (room .entry)) to (fitting x (seg (now (room .entry)) by m) capacity (seg (now (room .entry)) from n)) ⌝ }
+{
+    if n == 1 {
+        return replace_word(room, from, x, by, m, to, capacity);
+    }
+    replace_all(room, from, n, x, by, m, to, capacity)
 }

@@ -1,6 +1,6 @@
 -- Two kernels are compared: what holds on the way along their arguments (`Arguing`), how each turn goes on, and what is told at the end.
-use Prim.Native.Nat.{ℕ, _+_, _-_, _<_, _≤_}
-use mathlib.Core.Path.{_≡_, refl, ap, ap₂, sym, _∙_}
+use Prim.Native.Nat.{ℕ, _+_, _-_, _<_}
+use mathlib.Core.Path.{_≡_, ap, ap₂, sym, _∙_}
 use mathlib.Core.List.{List}
 use mathlib.Core.Bool.{Bool, true, false, _&&_}
 use native.Mathlib.Omega.{arith}
@@ -8,7 +8,7 @@ use lib.ListN.{length, getD}
 use Rattle.terms.specs.Kind.{takes}
 use Rattle.terms.specs.Term.{size}
 use Rattle.laws.specs.Equal.{equal, equal*, kernels-equal}
-use Rattle.same.specs.Places.{Held, valued, Placed, Known, resolved, end}
+use Rattle.same.specs.Places.{Held, valued, Placed, resolved, end}
 use Rattle.same.specs.Classes.{Told, Comparing, ComparingKernels, Same}
 use Rattle.same.specs.Opened.{resolving}
 use Rattle.same.specs.Arguments.{arguments, following, Left, kernel-at, words-differ, words-agree, left-first, left-next, next-inside, argument-smaller, equal-next, equal-none}

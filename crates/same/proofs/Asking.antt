@@ -1,15 +1,14 @@
 -- A question's words and then its values', as one row of terms: the values stand where they are noted, and the equations hold with them exactly if the
 -- values solve the question.
-use Prim.Native.Nat.{ℕ, zero, suc, _+_, _*_, _<_, _≤_}
+use Prim.Native.Nat.{ℕ, zero, suc, _+_, _<_}
 use mathlib.Core.Path.{_≡_, refl, ap, ap₂, sym, _∙_}
-use mathlib.Core.List.{List, [], _∷_, _++_, append-assoc, append-nil}
-use mathlib.Core.Bool.{Bool, true, _&&_}
+use mathlib.Core.List.{List, [], _∷_, _++_, append-assoc}
+use mathlib.Core.Bool.{_&&_}
 use native.Mathlib.Omega.{arith}
 use lib.ListN.{length, getD, drop, length-append}
 use lib.Seq.{drop-at}
 use Rattle.terms.specs.Bounds.{Bounds}
 use Rattle.terms.specs.Formed.{Formed, Formed*, formed-unknown, formed-empty, formed-with, formed-functor, formed-none, formed-more, row, Equation, sides}
-use Rattle.terms.specs.Kind.{Worded}
 use Rattle.terms.specs.Lists.{All, none, both, all, All-append, All-map}
 use Rattle.terms.specs.Pushed.{formed-top, formed-drop}
 use Rattle.terms.specs.Reading.{read, row-read, top}
@@ -17,7 +16,7 @@ use Rattle.terms.specs.Substitution.{formed-wider}
 use Rattle.terms.specs.Term.{Term, Terms, empty, with, functor, more, words}
 use Rattle.laws.specs.Equal.{equal}
 use Rattle.laws.specs.Values.{Values, value, value*, in-order, holds-test, solves-test}
-use Rattle.same.specs.Places.{terms-from, tree, Held, values, Placed}
+use Rattle.same.specs.Places.{terms-from, Held, values, Placed}
 use Rattle.same.specs.Places as places
 use Rattle.same.specs.Holding.{holding, starts-from, Equations, Standings, WithValues}
 use Rattle.same.proofs.Started.{length-starts, started, started-inside}

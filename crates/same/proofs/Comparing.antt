@@ -1,15 +1,14 @@
 -- Two terms compared, from what is told of their kernels, of the left one's members, and of the right one's; and two places, whose labels then become one.
-use Prim.Native.Nat.{ℕ, _+_, _<_, _≤_}
+use Prim.Native.Nat.{ℕ, _+_, _≤_}
 use mathlib.Core.Path.{_≡_, refl, ap, sym, _∙_}
 use mathlib.Core.List.{List}
 use mathlib.Core.Bool.{Bool, true, false, _&&_, false≢true}
 use native.Mathlib.Omega.{arith}
-use lib.ListN.{length, getD, length-map}
-use Rattle.terms.specs.Flat.{size-positive}
+use lib.ListN.{getD}
 use Rattle.terms.specs.Term.{Term, unknown, empty, with, functor, members, kernel, size}
-use Rattle.laws.specs.Equal.{equal, equal-is, is-in, each-in, kernels-equal}
-use Rattle.same.specs.Places.{Held, valued, Known, KernelOf}
-use Rattle.same.specs.Classes.{Classes, Told, some-equals, each-equalled, Comparing, ComparingKernels, Compared, relabelled, Same, EachMeets}
+use Rattle.laws.specs.Equal.{equal, equal-is, each-in, kernels-equal}
+use Rattle.same.specs.Places.{Held, valued, KernelOf}
+use Rattle.same.specs.Classes.{BothSettled, Settled, Told, some-equals, each-equalled, Comparing, ComparingKernels, Compared, relabelled, Same, EachMeets}
 use Rattle.same.specs.Relabelled.{one-class, one-label, still-together}
 use Rattle.same.proofs.Meeting.{Since, since-start, since-told, told-since}
 
@@ -63,9 +62,18 @@ module _ {h : Held} {labels : List ℕ} {p q k l : ℕ} (c : Comparing h labels 
 
 -- ---- two places
 
+false-unless : (b : Bool) → (b ≡ true → ⊥) → b ≡ false
+false-unless true n = absurd (n refl)
+false-unless false n = refl
+
 module _ {h : Held} {labels : List ℕ} {p q : ℕ} (c : Comparing h labels p q) where
   pub same-label : getD labels p 0 ≡ getD labels q 0 → Same h labels labels p q true
   same-label e = record { told = told-since (since-start (c .classes)) (sym (c .classes .alike p q (c .left .inside) (c .right .inside) e)); joined = λ t. e }
+
+  pub settled-apart : {settled : List ℕ} {r : Bool} → Settled h settled labels → BothSettled settled p q r → r ≡ true → (getD labels p 0 ≡ getD labels q 0 → ⊥) → Same h labels labels p q false
+  settled-apart d b y n =
+      let e = false-unless (equal (valued h p) (valued h q)) (λ f. n (d .joined p q (c .left .inside) (c .right .inside) (b .left y) (b .right y) f)) in
+      record { told = told-since (since-start (c .classes)) (sym e); joined = λ t. absurd (false≢true t) }
 
   module _ {after : List ℕ} {r : Bool} (t : Told h labels after (equal (valued h p) (valued h q)) r) where
     pub not-same : r ≡ false → Same h labels after p q false

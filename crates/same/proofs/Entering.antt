@@ -1,6 +1,6 @@
 -- From a check that is fine to what the comparison starts from, and from what it tells to the answer: for a row of two ground terms, and for a question
 -- with a row of values.
-use Prim.Native.Nat.{ℕ, _+_, _*_, _<_, _≤_}
+use Prim.Native.Nat.{ℕ, _+_, _*_, _≤_}
 use mathlib.Core.Path.{_≡_, refl, ap, ap₂, sym, _∙_}
 use mathlib.Core.List.{List, [], _∷_, _++_}
 use mathlib.Core.Bool.{Bool, true, false, _&&_}
@@ -8,16 +8,16 @@ use native.Mathlib.Omega.{arith}
 use native.Mathlib.Nat.{zero-add}
 use lib.ListN.{length, take, drop, length-append}
 use lib.Seq.{length-take-le}
-use Rattle.room.specs.Room.{seg, put, put-put, seg-put-same, seg-eq}
+use Rattle.room.specs.Room.{seg, put, put-put, seg-put-same}
 use Rattle.terms.specs.Bounds.{edition-one, edition-one-proper}
 use Rattle.terms.specs.Check.{check-question, check-row}
 use Rattle.terms.specs.Formed.{Equation, sides}
-use Rattle.terms.specs.Lent.{Table, Row, Asked, table-worded, good-worded, check-row-ground, check-question-asked}
+use Rattle.terms.specs.Lent.{Row, Asked, table-worded, good-worded, check-row-ground, check-question-asked}
 use Rattle.terms.specs.Pushed.{formed-top, formed-drop}
 use Rattle.terms.specs.Reading.{read, top, question-of}
 use Rattle.terms.specs.declared.refusal.Checked.the-variants.{Fine}
 use Rattle.laws.specs.Equal.{equal}
-use Rattle.laws.specs.Values.{value, in-order, solves-test}
+use Rattle.laws.specs.Values.{in-order, solves-test}
 use Rattle.same.specs.Places.{terms-from, held, values, Placed}
 use Rattle.same.specs.Holding.{holding, Equations, WithValues}
 use Rattle.same.specs.Opened.{value-ground}

@@ -1,7 +1,7 @@
 -- Equations one after the other: what holds on the way along them (`Holds`), how each turn goes on, and what is told at the end.
-use Prim.Native.Nat.{ℕ, zero, suc, _+_, _-_, _*_, _<_, _≤_}
+use Prim.Native.Nat.{ℕ, zero, suc, _-_, _*_, _<_, _≤_}
 use mathlib.Core.Path.{_≡_, refl, ap, ap₂, sym, _∙_}
-use mathlib.Core.List.{List, [], _∷_}
+use mathlib.Core.List.{List}
 use mathlib.Core.Bool.{Bool, true, false, _&&_}
 use native.Mathlib.Omega.{arith}
 use native.Mathlib.Numerals.{sub-one}
@@ -15,11 +15,13 @@ use Rattle.terms.specs.Term.{Term}
 use Rattle.laws.specs.Equal.{equal}
 use Rattle.laws.specs.Values.{Values, value}
 use Rattle.same.specs.Places.{terms-from, tree, end, Terms, Held, values, valued, Placed, resolved}
-use Rattle.same.specs.Classes.{Classes, EachItsOwn, Comparing, Same}
+use Rattle.same.specs.Classes.{Classes, Settled, EachItsOwn, Comparing, Same}
 use Rattle.same.specs.Holding.{holding, Equations}
 use Rattle.same.specs.Opened.{resolving}
+use Rattle.same.specs.Ranks.{AllSettled}
 use Rattle.same.specs.Relabelled.{each-its-own}
 use Rattle.same.specs.Standing.{standing}
+use Rattle.same.proofs.Meeting.{settled-told}
 
 -- ---- terms one after the other
 
@@ -49,16 +51,24 @@ unfolding holding
 next-holding σ zero ts l = absurd (omega arith)
 next-holding σ (suc m) ts l = rw sub-one
 
-pub record Holds (h : Held) (labels : List ℕ) (m x due : ℕ) : Type 0 where
+pub record Holds (h : Held) (settled labels : List ℕ) (m x due : ℕ) : Type 0 where
   pub placed : Placed h
   pub classes : Classes h labels
+  pub apart : Settled h settled labels
   pub so-far : holding (values h) m (terms-from (h .bounds) (h .arities) (h .words) 0) ≡ holding (values h) due (terms-from (h .bounds) (h .arities) (h .words) x)
   pub enough : 2 * due ≤ length (terms-from (h .bounds) (h .arities) (h .words) x)
 
-pub holds-start : {h : Held} {before labels : List ℕ} {m : ℕ} → Equations h before m → EachItsOwn labels → length labels ≡ length before → Holds h labels m 0 m
-holds-start e own l = record { placed = e .placed; classes = each-its-own (l ∙ e .long) own; so-far = refl; enough = e .enough }
+pub holds-start : {h : Held} {settled labels : List ℕ} {m : ℕ} → Equations h labels m → AllSettled h settled labels → Holds h settled labels m 0 m
+holds-start e a = record { placed = e .placed; classes = a .classes; apart = a .apart; so-far = refl; enough = e .enough }
 
-module _ {h : Held} {labels : List ℕ} {m x due : ℕ} (w : Holds h labels m x due) where
+pub relabelled-equations : {h : Held} {before labels : List ℕ} {m : ℕ} → Equations h before m → length labels ≡ length before → Equations h labels m
+relabelled-equations e l = record { placed = e .placed; enough = e .enough; long = l ∙ e .long; few = e .few }
+
+-- an empty table settles no place
+pub none-settled : {h : Held} {before labels settled : List ℕ} {m : ℕ} → Equations h before m → EachItsOwn labels → length labels ≡ length before → length settled ≡ 0 → AllSettled h settled labels
+none-settled e own l z = record { classes = each-its-own (l ∙ e .long) own; apart = record { joined = λ p q i j a b s. let d = a .inside in absurd (omega arith) } }
+
+module _ {h : Held} {settled labels : List ℕ} {m x due : ℕ} (w : Holds h settled labels m x due) where
   pub holds-end : due ≡ 0 → holding (values h) m (terms-from (h .bounds) (h .arities) (h .words) 0) ≡ true
   unfolding holding
   holds-end z = w .so-far ∙ rw z
@@ -101,11 +111,12 @@ module _ {h : Held} {labels : List ℕ} {m x due : ℕ} (w : Holds h labels m x 
       pub holds-no : r ≡ false → holding (values h) m (terms-from (h .bounds) (h .arities) (h .words) 0) ≡ false
       holds-no f = by-first ∙ rw f
 
-      pub holds-on : r ≡ true → Holds h after m (end (h .bounds) (h .arities) (h .words) (end (h .bounds) (h .arities) (h .words) x)) (due - 1)
+      pub holds-on : r ≡ true → Holds h settled after m (end (h .bounds) (h .arities) (h .words) (end (h .bounds) (h .arities) (h .words) x)) (due - 1)
       holds-on f =
           record {
             placed = w .placed;
             classes = s .told .classes;
+            apart = settled-told (w .classes) (s .told) (w .apart);
             so-far = by-first ∙ rw f;
             enough = let e = w .enough in omega (arith, next-length (w .placed .terms) x left-in, next-length (w .placed .terms) _ right-in);
           }

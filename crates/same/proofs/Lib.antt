@@ -5,6 +5,8 @@ pub mod Meeting
 pub mod Matching
 pub mod Arguing
 pub mod Comparing
+pub mod Ranking
+pub mod Settling
 pub mod Holds
 pub mod Started
 pub mod Asking

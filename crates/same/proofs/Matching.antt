@@ -6,11 +6,11 @@ use mathlib.Core.List.{List}
 use mathlib.Core.Bool.{Bool, true, false, _&&_, false≢true}
 use mathlib.Core.Logic.{_⊎_, inl, inr}
 use native.Mathlib.Omega.{arith}
-use lib.ListN.{length, getD}
+use lib.ListN.{getD}
 use Rattle.terms.specs.Term.{members, size}
-use Rattle.laws.specs.Equal.{equal, is-in, each-in}
+use Rattle.laws.specs.Equal.{each-in}
 use Rattle.same.specs.Places.{Held, valued, Placed, Known, AtMember, Has, member-of, rest-of}
-use Rattle.same.specs.Classes.{Classes, Told, Joined, Comparing, Meets, EachMeets}
+use Rattle.same.specs.Classes.{Joined, Comparing, Meets, EachMeets}
 use Rattle.same.specs.Opened.{Opened, opened, closed}
 use Rattle.same.specs.Membership.{each-in-open, each-in-closed, member-smaller, rest-smaller, has-open, has-closed}
 use Rattle.same.proofs.Meeting.{has-inside, Since, since-start, since-told, told-since, label-kept}

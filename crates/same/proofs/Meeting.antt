@@ -10,7 +10,7 @@ use lib.ListN.{length, getD}
 use Rattle.terms.specs.Term.{members, size}
 use Rattle.laws.specs.Equal.{equal, is-in}
 use Rattle.same.specs.Places.{Held, valued, Placed, Known, AtMember, Has, first, later, member-of, rest-of}
-use Rattle.same.specs.Classes.{Classes, Coarser, Told, Comparing, Same, Meets}
+use Rattle.same.specs.Classes.{Classes, Coarser, Settled, Told, Comparing, Same, Meets}
 use Rattle.same.specs.Opened.{Opened, opened, closed}
 use Rattle.same.specs.Membership.{is-in-open, is-in-closed, member-smaller, rest-smaller, has-open, has-closed}
 use Rattle.same.specs.Relabelled.{coarser-itself, coarser-through}
@@ -36,6 +36,13 @@ told-since s e = record { told = e; classes = s .classes; coarser = s .coarser }
 
 pub since-length : {h : Held} {before labels : List ℕ} → Since h before labels → length labels ≡ length before
 since-length s = s .classes .long ∙ sym (s .long)
+
+-- what was settled stays so
+pub settled-since : {h : Held} {settled before labels : List ℕ} → Since h before labels → Settled h settled before → Settled h settled labels
+settled-since s d = record { joined = λ p q i j a b e. s .coarser .kept p q (rw (s .long) i) (rw (s .long) j) (d .joined p q i j a b e) }
+
+pub settled-told : {h : Held} {settled before labels : List ℕ} {truth answer : Bool} → Classes h before → Told h before labels truth answer → Settled h settled before → Settled h settled labels
+settled-told c t d = settled-since (since-told (since-start c) t) d
 
 -- one label stays one
 pub label-kept : {h : Held} {labels after : List ℕ} {truth answer : Bool} → Classes h labels → Told h labels after truth answer → {p q : ℕ} → p < length (h .words) → q < length (h .words)

@@ -1,10 +1,10 @@
 -- The walk along a set's members, and what the scan of labels finds on it: labels agree exactly where the terms are equal.
 use Prim.Native.Nat.{ℕ}
-use mathlib.Core.Path.{_≡_, refl, ap, sym, _∙_}
+use mathlib.Core.Path.{_≡_, refl, _∙_}
 use mathlib.Core.List.{List}
-use mathlib.Core.Bool.{Bool, true, false, _||_, _&&_}
+use mathlib.Core.Bool.{Bool, true, false, _&&_}
 use lib.ListN.{getD}
-use Rattle.terms.specs.Term.{Term, members}
+use Rattle.terms.specs.Term.{members}
 use Rattle.laws.specs.Equal.{equal}
 use Rattle.same.specs.Places.{Held, valued, Known, AtMember, Has, first, later, member-of, rest-of}
 use Rattle.same.specs.Classes.{some-equals, each-equalled, Compared, ComparedWith}

@@ -4,11 +4,11 @@ use mathlib.Core.Path.{_≡_, refl, ap, sym, _∙_}
 use mathlib.Core.List.{List, [], _∷_, _++_, append-assoc, append-nil}
 use native.Mathlib.Omega.{arith}
 use native.Mathlib.Numerals.{add-one}
-use lib.ListN.{length, getD, take, drop, set, length-set, take-append-drop}
+use lib.ListN.{length, getD, take, set, length-set}
 use lib.Seq.{take-suc-set, take-all}
 use Rattle.terms.specs.Bounds.{Bounds}
 use Rattle.terms.specs.Reading.{top}
-use Rattle.terms.specs.Term.{Term, empty}
+use Rattle.terms.specs.Term.{empty}
 use Rattle.same.specs.Places.{terms-from, tree, end, Terms}
 use Rattle.same.specs.Holding.{starts-from, Standings}
 use Rattle.same.specs.Standing.{standing, Within}

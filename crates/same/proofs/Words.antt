@@ -3,11 +3,9 @@ use Prim.Native.Nat.{ℕ, _+_, _-_, _<_, _≤_}
 use mathlib.Core.Path.{_≡_, refl}
 use mathlib.Core.List.{List}
 use native.Mathlib.Omega.{arith}
-use lib.Dec.{eqb, ltb}
-use lib.ListN.{length, getD}
-use borrow.Author.Tests.{eq-eqb, ne-eqb, lt-ltb, le-ltb}
-use Rattle.terms.specs.Bounds.{Bounds, edition-one, edition-one-proper}
-use Rattle.terms.specs.Kind.{Kind, of-empty, of-member, of-unknown, of-functor, of-nothing, kind, takes, Means, means, means-unknown, kind-of-unknown}
+use lib.ListN.{getD}
+use Rattle.terms.specs.Bounds.{edition-one, edition-one-proper}
+use Rattle.terms.specs.Kind.{Kind, of-empty, of-member, of-unknown, of-functor, of-nothing, Means, means, means-unknown, kind-of-unknown}
 use Rattle.same.specs.Places.{on-to, resolved}
 
 stays : {w : ℕ} (starts : List ℕ) (p : ℕ) (k : Kind) → Means edition-one w k → ((i : ℕ) → i < 1000 → w ≡ 1000 + i → ⊥) → on-to starts p k ≡ p

@@ -1,15 +1,14 @@
 -- Labels written one after the other from the first: at each place passed stands what is to stand there, and the others are as they were.
 use Prim.Native.Nat.{ℕ, _+_, _<_, _≤_}
-use mathlib.Core.Path.{_≡_, refl, ap, sym, _∙_}
+use mathlib.Core.Path.{_≡_, refl, sym, _∙_}
 use mathlib.Core.List.{List, map}
 use mathlib.Core.Logic.{_⊎_, inl, inr}
 use native.Mathlib.Omega.{arith}
 use native.Mathlib.Nat.{eq-or-lt-of-le}
 use lib.ListN.{length, getD, set, length-set, length-map}
-use lib.Dec.{eqb}
 use lib.Seq.{getD-set-same, getD-set-other, ext-getD}
 use borrow.Author.Tests.{eq-eqb, ne-eqb}
-use Rattle.same.specs.Classes.{EachItsOwn, relabel, relabelled}
+use Rattle.same.specs.Classes.{Cleared, EachItsOwn, relabel, relabelled}
 use Rattle.same.specs.Relabelled.{label-of}
 
 pub record Written (due : ℕ → ℕ) (before : List ℕ) (p : ℕ) (l : List ℕ) : Type 0 where
@@ -34,6 +33,9 @@ written-more {due} {before} {p} {l} v h e w =
 
 pub all-own : {before l : List ℕ} {p : ℕ} → length l ≤ p → Written (λ i. i) before p l → EachItsOwn l
 all-own h w = record { own = λ i b. w .done i (omega arith) (omega (arith, w .long)) }
+
+pub all-cleared : {before l : List ℕ} {p : ℕ} → length l ≤ p → Written (λ i. 65535) before p l → Cleared before l
+all-cleared h w = record { long = w .long; none = λ i b. w .done i (omega (arith, w .long)) b }
 
 pub all-relabelled : {before l : List ℕ} {p : ℕ} (old new : ℕ) → length l ≤ p → Written (λ i. relabel old new (getD before i 0)) before p l → l ≡ relabelled old new before
 unfolding relabelled

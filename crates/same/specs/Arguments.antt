@@ -1,11 +1,10 @@
 -- Two kernels compared: by their words, and then by as many arguments as follow those, one after the other.
 use Prim.Native.Nat.{ℕ, zero, suc, _+_, _-_, _<_, _≤_}
-use mathlib.Core.Path.{_≡_, refl, ap, ap₂, sym, _∙_}
-use mathlib.Core.List.{List, _∷_}
-use mathlib.Core.Bool.{Bool, true, false, _&&_}
+use mathlib.Core.Path.{_≡_, ap, sym, _∙_}
+use mathlib.Core.List.{List}
+use mathlib.Core.Bool.{true, false, _&&_}
 use native.Mathlib.Omega.{arith}
 use native.Mathlib.Numerals.{sub-one}
-use lib.Dec.{eqb}
 use lib.ListN.{length, getD, drop}
 use borrow.Author.Tests.{eq-eqb, ne-eqb}
 use Rattle.terms.specs.Flat.{size-positive}
@@ -40,7 +39,7 @@ pub data Kernel (h : Held) (p : ℕ) : Type 0 where
   kernel-functor : {k : ℕ} → getD (h .words) p 0 ≡ h .bounds .first-functor + k → valued h p ≡ functor k (arguments h (p + 1) (following h p)) → Kernel h p
 
 module _ {h : Held} (placed : Placed h) where
-  more-arguments : (x m : ℕ) → x < length (h .words)
+  pub more-arguments : (x m : ℕ) → x < length (h .words)
       → arguments h x (suc m) ≡ more (valued h x) (arguments h (end (h .bounds) (h .arities) (h .words) x) m)
   unfolding arguments taken value valued tree
   more-arguments x m l = ap (λ ts. more (valued h x) (value* (values h) (taken m ts))) (ap (drop 1) (standing (placed .terms) x l .on))

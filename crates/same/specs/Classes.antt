@@ -14,6 +14,26 @@ pub record Classes (h : Held) (labels : List ℕ) : Type 0 where
   pub long : length labels ≡ length (h .words)
   pub alike : (p q : ℕ) → p < length (h .words) → q < length (h .words) → getD labels p 0 ≡ getD labels q 0 → equal (valued h p) (valued h q) ≡ true
 
+-- A table that is lent settles the places where it has a number below 65,535: those of them that hold equal terms have one label.
+pub record IsSettled (settled : List ℕ) (p : ℕ) : Type 0 where
+  pub inside : p < length settled
+  pub below : getD settled p 0 < 65535
+
+pub record Settled (h : Held) (settled labels : List ℕ) : Type 0 where
+  pub joined : (p q : ℕ) → p < length (h .words) → q < length (h .words) → IsSettled settled p → IsSettled settled q → equal (valued h p) (valued h q) ≡ true
+      → getD labels p 0 ≡ getD labels q 0
+
+pub record TellsSettled (settled : List ℕ) (p : ℕ) (answer : Bool) : Type 0 where
+  pub yes : answer ≡ true → IsSettled settled p
+
+pub record BothSettled (settled : List ℕ) (p q : ℕ) (answer : Bool) : Type 0 where
+  pub left : answer ≡ true → IsSettled settled p
+  pub right : answer ≡ true → IsSettled settled q
+
+pub record Cleared (before after : List ℕ) : Type 0 where
+  pub long : length after ≡ length before
+  pub none : (p : ℕ) → p < length before → getD after p 0 ≡ 65535
+
 -- before any is compared
 pub record EachItsOwn (labels : List ℕ) : Type 0 where
   pub own : (p : ℕ) → p < length labels → getD labels p 0 ≡ p

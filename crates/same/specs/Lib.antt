@@ -7,3 +7,4 @@ pub mod Membership
 pub mod Arguments
 pub mod Holding
 pub mod Answering
+pub mod Ranks

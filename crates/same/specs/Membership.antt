@@ -2,11 +2,10 @@
 use Prim.Native.Nat.{ℕ, suc, _+_, _<_}
 use mathlib.Core.Path.{_≡_, refl, ap}
 use mathlib.Core.List.{List, _∷_}
-use mathlib.Core.Bool.{Bool, true, false, _||_, _&&_}
+use mathlib.Core.Bool.{true, false, _||_, _&&_}
 use mathlib.Core.Logic.{_⊎_, inl, inr}
 use native.Mathlib.Omega.{arith}
 use lib.ListN.{getD}
-use Rattle.terms.specs.Flat.{size-positive}
 use Rattle.terms.specs.Lists.{all, any}
 use Rattle.terms.specs.Term.{Term, members, kernel, size}
 use Rattle.laws.specs.Equal.{equal, is-in, each-in}

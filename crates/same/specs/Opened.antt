@@ -6,11 +6,10 @@ use mathlib.Core.List.{List, []}
 use native.Mathlib.Omega.{arith}
 use lib.ListN.{length, getD}
 use Rattle.terms.specs.Formed.{Formed, Formed*, formed-unknown, formed-empty, formed-with, formed-functor, formed-none, formed-more}
-use Rattle.terms.specs.Kind.{Kind, kind, kind-unknown, kind-functor}
-use Rattle.terms.specs.Reading.{taken}
-use Rattle.terms.specs.Term.{Term, Terms, unknown, empty, with, functor, none, more, members, kernel}
+use Rattle.terms.specs.Kind.{kind, kind-unknown, kind-functor}
+use Rattle.terms.specs.Term.{Term, Terms, unknown, with, functor, more, members, kernel}
 use Rattle.laws.specs.Values.{Values, value, value*}
-use Rattle.same.specs.Places.{terms-from, tree, end, Held, values, valued, Placed, Known, on-to, resolved, Resolvable, member-of, rest-of}
+use Rattle.same.specs.Places.{tree, end, Held, values, valued, Placed, Known, on-to, resolved, Resolvable, member-of, rest-of}
 use Rattle.same.specs.Standing.{View, sees-empty, sees-member, sees-unknown, sees-functor, view}
 
 -- no unknown is in a ground term

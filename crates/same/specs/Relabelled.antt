@@ -1,5 +1,5 @@
 -- Laws of labels: each place by itself is a class of its own; two classes whose terms are equal become one; classes never part again.
-use Prim.Native.Nat.{ℕ, zero, suc, _<_, _≤_}
+use Prim.Native.Nat.{ℕ, zero, suc, _<_}
 use mathlib.Core.Path.{_≡_, refl, ap, sym, _∙_}
 use mathlib.Core.List.{List, [], _∷_, map}
 use mathlib.Core.Bool.{Bool, true, false, cond}
@@ -8,7 +8,7 @@ use lib.Dec.{eqb}
 use lib.ListN.{length, getD, length-map}
 use borrow.Author.Tests.{eqb-true, eq-eqb}
 use Rattle.terms.specs.Term.{Term}
-use Rattle.laws.specs.Laws.{_≈_, ≈refl, ≈sym, ≈trans}
+use Rattle.laws.specs.Laws.{≈refl, ≈sym, ≈trans}
 use Rattle.laws.specs.Equal.{equal}
 use Rattle.laws.specs.Agree.{agree}
 use Rattle.same.specs.Places.{Held, valued}
@@ -20,7 +20,7 @@ equal-itself t = (agree t t) .0 ≈refl
 pub equal-back : (t u : Term) → equal t u ≡ true → equal u t ≡ true
 equal-back t u e = (agree u t) .0 (≈sym ((agree t u) .1 e))
 
-equal-through : (t u v : Term) → equal t u ≡ true → equal u v ≡ true → equal t v ≡ true
+pub equal-through : (t u v : Term) → equal t u ≡ true → equal u v ≡ true → equal t v ≡ true
 equal-through t u v e f = (agree t v) .0 (≈trans ((agree t u) .1 e) ((agree u v) .1 f))
 
 -- ---- classes that stay

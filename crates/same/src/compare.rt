@@ -1,8 +1,9 @@
 // The comparison of the terms at two places, values put in. It recurses into members and arguments; the sum of the two terms' symbols falls.
-// A pair found equal gets one label, so that it is not compared again.
+// A pair found equal gets one label, so that it is not compared again; two settled places with different labels differ.
 ghost use Rattle.laws.specs.Equal.{equal, kernels-equal};
 ghost use Rattle.same.specs.Places.{held, valued};
-ghost use Rattle.same.specs.Classes.{Comparing, ComparingKernels, Told, Same, Meets, EachMeets};
+ghost use Rattle.same.specs.Classes.{Comparing, ComparingKernels, Settled, Told, Same, Meets, EachMeets};
+use crate::classes::both_settled;
 use crate::classes::join;
 use crate::places::kernel;
 use crate::places::resolve;
@@ -17,17 +18,22 @@ pub fn same(
     arities: &[u8],
     words: &[u16],
     starts: &[u16],
+    settled: &[u16],
     labels: &mut [u16],
     p: usize,
     q: usize,
 ) -> bool
     requires { ⌜ Comparing (held (now arities) (now words) (now starts)) (now labels) p q ⌝ }
+    requires { ⌜ Settled (held (now arities) (now words) (now starts)) (now settled) (now labels) ⌝ }
     ensures { λ r. ⌜ Same (held (now (arities .entry)) (now (words .entry)) (now (starts .entry))) (now (labels .entry)) (now (labels .exit)) p q r ⌝ }
 {
     if labels[p] == labels[q] {
         return true;
     }
-    if compare(arities, words, starts, labels, p, q) {
+    if both_settled(settled, p, q) {
+        return false;
+    }
+    if compare(arities, words, starts, settled, labels, p, q) {
         let old = labels[p];
         let new = labels[q];
         join(labels, old, new);
@@ -41,17 +47,19 @@ fn compare(
     arities: &[u8],
     words: &[u16],
     starts: &[u16],
+    settled: &[u16],
     labels: &mut [u16],
     p: usize,
     q: usize,
 ) -> bool
     requires { ⌜ Comparing (held (now arities) (now words) (now starts)) (now labels) p q ⌝ }
+    requires { ⌜ Settled (held (now arities) (now words) (now starts)) (now settled) (now labels) ⌝ }
     ensures { λ r. ⌜ Told (held (now (arities .entry)) (now (words .entry)) (now (starts .entry))) (now (labels .entry)) (now (labels .exit)) (equal (valued (held (now (arities .entry)) (now (words .entry)) (now (starts .entry))) p) (valued (held (now (arities .entry)) (now (words .entry)) (now (starts .entry))) q)) r ⌝ }
 {
     let k = kernel(arities, words, starts, p);
     let l = kernel(arities, words, starts, q);
-    if kernels(arities, words, starts, labels, k, l) {
-        if each_meets(arities, words, starts, labels, p, q) {
+    if kernels(arities, words, starts, settled, labels, k, l) {
+        if each_meets(arities, words, starts, settled, labels, p, q) {
             return covers(arities, words, starts, labels, p, q);
         }
         return false;
@@ -64,11 +72,13 @@ fn kernels(
     arities: &[u8],
     words: &[u16],
     starts: &[u16],
+    settled: &[u16],
     labels: &mut [u16],
     p: usize,
     q: usize,
 ) -> bool
     requires { ⌜ ComparingKernels (held (now arities) (now words) (now starts)) (now labels) p q ⌝ }
+    requires { ⌜ Settled (held (now arities) (now words) (now starts)) (now settled) (now labels) ⌝ }
     ensures { λ r. ⌜ Told (held (now (arities .entry)) (now (words .entry)) (now (starts .entry))) (now (labels .entry)) (now (labels .exit)) (kernels-equal (valued (held (now (arities .entry)) (now (words .entry)) (now (starts .entry))) p) (valued (held (now (arities .entry)) (now (words .entry)) (now (starts .entry))) q)) r ⌝ }
 {
     let word = words[p];
@@ -83,6 +93,7 @@ fn kernels(
             arities,
             words,
             starts,
+            settled,
             labels,
             resolve(words, starts, x),
             resolve(words, starts, y),
@@ -102,11 +113,13 @@ fn each_meets(
     arities: &[u8],
     words: &[u16],
     starts: &[u16],
+    settled: &[u16],
     labels: &mut [u16],
     p: usize,
     q: usize,
 ) -> bool
     requires { ⌜ Comparing (held (now arities) (now words) (now starts)) (now labels) p q ⌝ }
+    requires { ⌜ Settled (held (now arities) (now words) (now starts)) (now settled) (now labels) ⌝ }
     ensures { λ r. ⌜ EachMeets (held (now (arities .entry)) (now (words .entry)) (now (starts .entry))) (now (labels .entry)) (now (labels .exit)) p q r ⌝ }
 {
     let mut x = p;
@@ -115,6 +128,7 @@ fn each_meets(
             arities,
             words,
             starts,
+            settled,
             labels,
             resolve(words, starts, x + 1),
             q,
@@ -132,11 +146,13 @@ fn meets(
     arities: &[u8],
     words: &[u16],
     starts: &[u16],
+    settled: &[u16],
     labels: &mut [u16],
     m: usize,
     q: usize,
 ) -> bool
     requires { ⌜ Comparing (held (now arities) (now words) (now starts)) (now labels) m q ⌝ }
+    requires { ⌜ Settled (held (now arities) (now words) (now starts)) (now settled) (now labels) ⌝ }
     ensures { λ r. ⌜ Meets (held (now (arities .entry)) (now (words .entry)) (now (starts .entry))) (now (labels .entry)) (now (labels .exit)) m q r ⌝ }
 {
     let mut met = false;
@@ -146,6 +162,7 @@ fn meets(
             arities,
             words,
             starts,
+            settled,
             labels,
             m,
             resolve(words, starts, y + 1),

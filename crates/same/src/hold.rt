@@ -5,23 +5,29 @@ ghost use Rattle.terms.specs.Bounds.{edition-one};
 ghost use Rattle.laws.specs.Values.{in-order};
 ghost use Rattle.same.specs.Places.{held, values, terms-from};
 ghost use Rattle.same.specs.Holding.{holding, starts-from, Equations, Standings, WithValues};
+ghost use Rattle.same.specs.Ranks.{AllSettled};
+use crate::classes::blank;
+use crate::classes::clear;
 use crate::classes::number;
 use crate::compare::same;
 use crate::places::resolve;
 use crate::places::term_end;
+use crate::ranks::rank_all;
+use crate::settle::settle;
 
 // Do the first so many equations of the words hold?
-pub fn all_hold(
+fn each_holds(
     arities: &[u8],
     words: &[u16],
     starts: &[u16],
+    settled: &[u16],
     labels: &mut [u16],
     equations: usize,
 ) -> bool
     requires { ⌜ Equations (held (now arities) (now words) (now starts)) (now labels) equations ⌝ }
+    requires { ⌜ AllSettled (held (now arities) (now words) (now starts)) (now settled) (now labels) ⌝ }
     ensures { λ r. ⌜ r ≡ holding (values (held (now (arities .entry)) (now (words .entry)) (now (starts .entry)))) equations (terms-from edition-one (now (arities .entry)) (now (words .entry)) 0) ⌝ }
 {
-    number(labels);
     let mut left: usize = 0;
     let mut due = equations;
     while 0 < due {
@@ -30,6 +36,7 @@ pub fn all_hold(
             arities,
             words,
             starts,
+            settled,
             labels,
             resolve(words, starts, left),
             resolve(words, starts, right),
@@ -41,6 +48,69 @@ pub fn all_hold(
         }
     }
     true
+}
+
+// The same where no term is shared by many places.
+pub fn all_hold(
+    arities: &[u8],
+    words: &[u16],
+    starts: &[u16],
+    labels: &mut [u16],
+    equations: usize,
+) -> bool
+    requires { ⌜ Equations (held (now arities) (now words) (now starts)) (now labels) equations ⌝ }
+    ensures { λ r. ⌜ r ≡ holding (values (held (now (arities .entry)) (now (words .entry)) (now (starts .entry)))) equations (terms-from edition-one (now (arities .entry)) (now (words .entry)) 0) ⌝ }
+{
+    number(labels);
+    each_holds(arities, words, starts, &starts[..0], labels, equations)
+}
+
+// The same in tables lent for it.
+fn settled_in(
+    arities: &[u8],
+    words: &[u16],
+    starts: &[u16],
+    ranks: &mut [u16],
+    settled: &mut [u16],
+    labels: &mut [u16],
+    equations: usize,
+) -> bool
+    requires { ⌜ Equations (held (now arities) (now words) (now starts)) (now labels) equations ⌝ }
+    requires { ⌜ length (now ranks) ≡ length (now words) ⌝ }
+    requires { ⌜ length (now settled) ≡ length (now words) ⌝ }
+    ensures { λ r. ⌜ r ≡ holding (values (held (now (arities .entry)) (now (words .entry)) (now (starts .entry)))) equations (terms-from edition-one (now (arities .entry)) (now (words .entry)) 0) ⌝ }
+{
+    number(labels);
+    clear(ranks);
+    rank_all(arities, words, starts, ranks);
+    clear(settled);
+    settle(arities, words, starts, ranks, settled, labels);
+    each_holds(arities, words, starts, settled, labels, equations)
+}
+
+// The same where places are settled first.
+fn settled_hold(
+    arities: &[u8],
+    words: &[u16],
+    starts: &[u16],
+    labels: &mut [u16],
+    equations: usize,
+) -> bool
+    requires { ⌜ Equations (held (now arities) (now words) (now starts)) (now labels) equations ⌝ }
+    ensures { λ r. ⌜ r ≡ holding (values (held (now (arities .entry)) (now (words .entry)) (now (starts .entry)))) equations (terms-from edition-one (now (arities .entry)) (now (words .entry)) 0) ⌝ }
+{
+    let mut ranks = blank();
+    let mut settled = blank();
+    let n = words.len();
+    settled_in(
+        arities,
+        words,
+        starts,
+        &mut ranks[..n],
+        &mut settled[..n],
+        labels,
+        equations,
+    )
 }
 
 // Notes where the values start, the first of them at `from`.
@@ -57,6 +127,9 @@ fn place_values(arities: &[u8], words: &[u16], from: usize, starts: &mut [u16])
     }
 }
 
+// Up to so many words are compared as they are: however often their values stand in the question, that is soon done.
+const SHORT: usize = 128;
+
 // Do the first so many equations hold with the values that start at `from`?
 pub fn values_hold(
     arities: &[u8],
@@ -71,5 +144,8 @@ pub fn values_hold(
     ensures { λ r. ⌜ r ≡ holding (in-order (terms-from edition-one (now (arities .entry)) (now (words .entry)) from)) equations (terms-from edition-one (now (arities .entry)) (now (words .entry)) 0) ⌝ }
 {
     place_values(arities, words, from, starts);
-    all_hold(arities, words, starts, labels, equations)
+    if words.len() < SHORT {
+        return all_hold(arities, words, starts, labels, equations);
+    }
+    settled_hold(arities, words, starts, labels, equations)
 }

@@ -2,9 +2,10 @@
 // writes nothing.
 //
 // A client's contracts cite `specs/Answering.antt`, what the two answer. `places` finds the way about words that hold terms, `classes` keeps labels of
-// places whose terms are equal, `compare` and `scan` compare the terms at two places, `hold` goes through equations.
+// places whose terms are equal, `compare` and `scan` compare the terms at two places, `ranks` and `settle` do so beforehand where values may stand in many
+// places, `hold` goes through equations.
 ghost use mathlib.Core.Path.{_≡_};
-ghost use lib.ListN.{length, drop};
+ghost use lib.ListN.{drop};
 ghost use Rattle.terms.specs.Bounds.{edition-one};
 ghost use Rattle.terms.specs.Check.{check-question, check-row};
 ghost use Rattle.terms.specs.Reading.{read, top, question-of};
@@ -17,8 +18,11 @@ pub mod classes;
 pub mod compare;
 pub mod hold;
 pub mod places;
+pub mod ranks;
 pub mod scan;
+pub mod settle;
 
+use crate::classes::blank;
 use crate::hold::all_hold;
 use crate::hold::values_hold;
 use room::copy_in;
@@ -39,13 +43,6 @@ pub enum Solving {
     Yes,
     No,
     Refused(Refusal),
-}
-
-// Room for the words of a question and of its values. The contract has its length alone, which lending it needs.
-fn blank() -> [u16; 8192]
-    ensures { λ r. ⌜ 8192 ≡ length r ⌝ }
-{
-    [0; 8192]
 }
 
 // Are the two ground terms of a row equal?

@@ -5,7 +5,7 @@ mod fits;
 mod plant;
 
 use crate::equality::{hold, Values};
-use crate::fast;
+use crate::fast::Solver;
 use crate::random::{rich_question, small_question, Maker, Random};
 use crate::search::{search, Loan, Outcome};
 use crate::terms::*;
@@ -31,8 +31,9 @@ pub struct Tally {
 /// Tries `count` random questions; `Err` tells the first thing that is not as promised.
 pub fn check(seed: u64, count: u64) -> Result<Tally, String> {
     let mut tally = Tally::default();
+    let mut seeds = Random::new(seed);
     for index in 0..count {
-        let mut random = Random::new(seed.wrapping_mul(1_000_003).wrapping_add(index));
+        let mut random = Random::new(seeds.draw());
         let question = match random.below(3) {
             0 => {
                 let budget = random.between(2, 9);
@@ -81,20 +82,9 @@ fn try_question(random: &mut Random, question: &Question, tally: &mut Tally) -> 
 fn run_both(question: &Question, loan: &Loan, tally: &mut Tally) -> Result<Outcome, String> {
     let plain = search(question, loan);
     let mut words = vec![u16::MAX; loan.space];
-    let limits = fast::Limits {
-        steps: loan.steps,
-        depth: loan.depth,
-        size: loan.size,
-    };
-    let fast = fast::run(
-        question.unknowns,
-        &question.arities,
-        question.equations,
-        &question.words,
-        &limits,
-        &mut words,
-    )
-    .map_err(|r| format!("the fast search refuses: {r:?}"))?;
+    let fast = Solver::default()
+        .run(question, loan, &mut words)
+        .map_err(|r| format!("the fast search refuses: {r:?}"))?;
     let used = plain.words.len();
     if (fast.end, fast.visited, fast.answers, fast.used)
         != (plain.end, plain.visited, plain.answers, used)
@@ -182,11 +172,7 @@ fn try_values(
     }
     for answer in answers.iter().take(20) {
         for _ in 0..3 {
-            let mut maker = Maker {
-                random,
-                unknowns: 0,
-                arities: &question.arities,
-            };
+            let mut maker = Maker::ground(random, &question.arities);
             let mut given = fits::instance(&mut maker, &mut values, question, answer);
             if !hold(&mut values, &equations, &given) {
                 return Err(format!("values that fit {answer:?} do not solve"));
@@ -244,11 +230,7 @@ fn universe(
         fits::parts(left, &mut parts);
         fits::parts(right, &mut parts);
     }
-    let mut maker = Maker {
-        random,
-        unknowns: 0,
-        arities: &question.arities,
-    };
+    let mut maker = Maker::ground(random, &question.arities);
     let mut universe = Vec::new();
     for _ in 0..4 * most {
         let budget = maker.random.between(1, 5);

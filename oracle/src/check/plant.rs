@@ -14,11 +14,7 @@ struct Disguise<'a> {
 pub fn question(random: &mut Random) -> Question {
     let arities = random::arities(random);
     let unknowns = random.between(1, 4);
-    let maker = Maker {
-        random,
-        unknowns: 0,
-        arities: &arities,
-    };
+    let maker = Maker::ground(random, &arities);
     let mut disguise = Disguise {
         maker,
         values: Values::default(),

@@ -5,18 +5,10 @@ mod rows;
 mod split;
 mod steps;
 
-use crate::terms::{refuse, Refusal, NAMES, WITH};
-use crate::terms::{MOST_DEPTH, MOST_SIZE, MOST_STEPS};
-use crate::words::check_question;
+use crate::search::{check_limits, Loan};
+use crate::terms::{Question, Refusal, NAMES, WITH};
 use rows::{term_end, Row};
 use split::Choice;
-
-#[derive(Clone, Copy, Debug)]
-pub struct Limits {
-    pub steps: u64,
-    pub depth: u64,
-    pub size: u64,
-}
 
 /// The end, nodes visited, answers, and how many answer words were used.
 #[derive(Clone, Copy, Debug, PartialEq, Eq)]
@@ -25,18 +17,6 @@ pub struct Outcome {
     pub visited: u64,
     pub answers: u64,
     pub used: usize,
-}
-
-/// A run of one question with buffers of its own.
-pub fn run(
-    unknowns: u64,
-    arities: &[u8],
-    equations: u64,
-    words: &[u16],
-    limits: &Limits,
-    answers: &mut [u16],
-) -> Result<Outcome, Refusal> {
-    Solver::default().run(unknowns, arities, equations, words, limits, answers)
 }
 
 /// What became of a due node's state: a dead end, a live one, or one too large to be written out.
@@ -60,28 +40,24 @@ pub struct Solver {
 }
 
 impl Solver {
+    /// A run of a question. The loan's space is the first words of the answers' buffer, which has as many.
     pub fn run(
         &mut self,
-        unknowns: u64,
-        arities: &[u8],
-        equations: u64,
-        words: &[u16],
-        limits: &Limits,
+        question: &Question,
+        loan: &Loan,
         answers: &mut [u16],
     ) -> Result<Outcome, Refusal> {
-        if limits.steps > MOST_STEPS || limits.depth > MOST_DEPTH || limits.size > MOST_SIZE {
-            return refuse(3, 0);
-        }
-        check_question(unknowns, arities, equations, words)?;
-        self.full = limits.size as usize;
+        check_limits(loan)?;
+        question.check()?;
+        self.full = loan.size as usize;
         self.open = 0;
         self.bindings.clear();
         let row = &mut self.row;
         row.pending.clear();
-        row.pending.extend_from_slice(words);
+        row.pending.extend_from_slice(&question.words);
         row.pile.clear();
         row.head = 0;
-        row.next = unknowns as u16;
+        row.next = question.unknowns as u16;
         row.depth = 0;
         row.bindings = 0;
         row.bound = 0;
@@ -91,18 +67,19 @@ impl Solver {
             answers: 0,
             used: 0,
         };
-        record.end = self.search(arities, limits, answers, &mut record);
+        let answers = &mut answers[..loan.space];
+        record.end = self.search(&question.arities, loan, answers, &mut record);
         Ok(record)
     }
 
     fn search(
         &mut self,
         arities: &[u8],
-        limits: &Limits,
+        loan: &Loan,
         answers: &mut [u16],
         record: &mut Outcome,
     ) -> u64 {
-        if limits.steps == 0 {
+        if loan.steps == 0 {
             return 20;
         }
         if self.row.pending.len() > self.full {
@@ -120,10 +97,10 @@ impl Solver {
                 self.open_split(arities);
             } else {
                 self.row.depth += 1;
-                if record.visited == limits.steps {
+                if record.visited == loan.steps {
                     return 20;
                 }
-                if self.row.depth > limits.depth {
+                if self.row.depth > loan.depth {
                     return 21;
                 }
                 made = Some(self.step(arities));
@@ -150,10 +127,10 @@ impl Solver {
                 if self.open == 0 {
                     return 0;
                 }
-                if record.visited == limits.steps {
+                if record.visited == loan.steps {
                     return 20;
                 }
-                if self.choices[self.open - 1].depth() > limits.depth {
+                if self.choices[self.open - 1].depth() > loan.depth {
                     return 21;
                 }
                 made = Some(self.pick(arities));

@@ -1,7 +1,7 @@
 //! Cases around the limits: 4,094 to 4,098 symbols, nesting 199 to 201, arities and counts.
 
-use super::runs;
 use super::texts::{damage, line, text_of};
+use super::{asked_line, runs};
 use crate::cases::{hex, joined};
 use crate::random::{question, Maker, Random};
 use crate::search::Loan;
@@ -70,7 +70,7 @@ pub fn many_symbols(random: &mut Random) -> String {
                 asked.words[random.between(last - 5, last)] = *random.pick(&[7, 1001, 2001, 65535]);
             }
             let capacity = *random.pick(&[0, 10_000, 30_000]);
-            format!("writeq\t1\t1\t1\t{}\t{capacity}", joined(&asked.words))
+            asked_line("writeq", &asked, capacity)
         }
         5..=6 => {
             let mut row = ground(&left);
@@ -129,11 +129,7 @@ pub fn deep_nesting(random: &mut Random) -> String {
             }
             line(&text)
         }
-        4 => format!(
-            "writeq\t1\t0,1,2\t1\t{}\t{}",
-            joined(&asked.words),
-            random.below(3000)
-        ),
+        4 => asked_line("writeq", &asked, random.below(3000)),
         5 => format!(
             "writel\t0,1,2\t0\t3\t1\t{}\t{}",
             joined(&list),
@@ -143,11 +139,7 @@ pub fn deep_nesting(random: &mut Random) -> String {
             row.extend_from_within(..);
             format!("equal\t0,1,2\t{}", joined(&row))
         }
-        7 => format!(
-            "values\t1\t0,1,2\t1\t{}\t{}",
-            joined(&asked.words),
-            joined(&row)
-        ),
+        7 => asked_line("values", &asked, joined(&row)),
         _ => {
             let loan = Loan {
                 steps: 50,
@@ -194,11 +186,7 @@ pub fn counts(random: &mut Random) -> String {
         words: vec![],
     };
     if random.percent(60) {
-        let mut maker = Maker {
-            random,
-            unknowns: asked.unknowns.min(256) as u16,
-            arities: &asked.arities,
-        };
+        let mut maker = Maker::new(random, asked.unknowns.min(256) as u16, &asked.arities);
         for _ in 0..2 * asked.equations.min(65) {
             let term = maker.term(2);
             term.write(&mut asked.words);
@@ -231,26 +219,10 @@ pub fn counts(random: &mut Random) -> String {
             ]);
             format!("text\t{}", hex(format!("{header}{key}").as_bytes()))
         }
-        5..=6 => {
-            let capacity = random.below(700);
-            format!(
-                "writeq\t{}\t{}\t{}\t{}\t{capacity}",
-                asked.unknowns,
-                joined(&asked.arities),
-                asked.equations,
-                joined(&asked.words)
-            )
-        }
+        5..=6 => asked_line("writeq", &asked, random.below(700)),
         _ => {
             let row = vec![0; asked.unknowns.min(300) as usize];
-            format!(
-                "values\t{}\t{}\t{}\t{}\t{}",
-                asked.unknowns,
-                joined(&asked.arities),
-                asked.equations,
-                joined(&asked.words),
-                joined(&row)
-            )
+            asked_line("values", &asked, joined(&row))
         }
     }
 }

@@ -1,16 +1,27 @@
 //! Random cases of the test driver by seed: good ones, damaged ones, and ones around every limit.
 
+mod large;
 mod limits;
 mod runs;
 mod tables;
 mod texts;
 
+use crate::cases::joined;
 use crate::random::Random;
+use crate::terms::Question;
+use std::fmt::Display;
 
 /// `count` cases, one a line, without their results.
-pub fn cases(seed: u64, count: usize) -> Vec<String> {
+pub fn cases(seed: u64, count: u64) -> impl Iterator<Item = String> {
     let mut random = Random::new(seed);
-    (0..count).map(|_| case(&mut random)).collect()
+    (0..count).map(move |_| case(&mut random))
+}
+
+/// A case of a kind that begins with the question's fields U A E W, and its last field.
+fn asked_line(kind: &str, asked: &Question, last: impl Display) -> String {
+    let (arities, words) = (joined(&asked.arities), joined(&asked.words));
+    let (unknowns, equations) = (asked.unknowns, asked.equations);
+    format!("{kind}\t{unknowns}\t{arities}\t{equations}\t{words}\t{last}")
 }
 
 fn case(random: &mut Random) -> String {
@@ -20,7 +31,8 @@ fn case(random: &mut Random) -> String {
         40..=99 => limits::counts(random),
         100..=169 => texts::good(random),
         170..=299 => texts::damaged(random),
-        300..=619 => runs::case(random),
+        300..=589 => runs::case(random),
+        590..=619 => large::case(random),
         620..=719 => tables::write_question(random),
         720..=819 => tables::write_answers(random),
         820..=909 => tables::equal(random),

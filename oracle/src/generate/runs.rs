@@ -2,7 +2,7 @@
 
 use super::texts::{damage, text_of};
 use crate::cases::hex;
-use crate::fast::{Limits, Solver};
+use crate::fast::Solver;
 use crate::random::{rich_question, small_question, Random};
 use crate::search::Loan;
 use crate::terms::*;
@@ -22,19 +22,7 @@ pub fn line(loan: &Loan, text: &[u8]) -> String {
 
 fn end(question: &Question, loan: &Loan) -> (u64, u64, usize) {
     let mut answers = vec![0; loan.space];
-    let limits = Limits {
-        steps: loan.steps,
-        depth: loan.depth,
-        size: loan.size,
-    };
-    let outcome = Solver::default().run(
-        question.unknowns,
-        &question.arities,
-        question.equations,
-        &question.words,
-        &limits,
-        &mut answers,
-    );
+    let outcome = Solver::default().run(question, loan, &mut answers);
     outcome.map_or((0, 0, 0), |o| (o.end, o.visited, o.used))
 }
 
@@ -53,7 +41,7 @@ fn least(most: u64, holds: impl Fn(u64) -> bool) -> u64 {
 }
 
 /// The least loan that lets the search end as done within `steps`.
-fn least_loan(question: &Question, steps: u64) -> Option<Loan> {
+pub fn least_loan(question: &Question, steps: u64) -> Option<Loan> {
     let wide = Loan {
         steps,
         depth: MOST_DEPTH,
@@ -100,7 +88,12 @@ pub fn case(random: &mut Random) -> String {
         1500
     };
     let (question, least) = asked(random, steps);
-    let mut text = text_of(&question);
+    lent(random, &question, least, steps)
+}
+
+/// A run of the question with a loan about the least that it is done with; if there is none, with at most `steps` and any other loan.
+pub fn lent(random: &mut Random, question: &Question, least: Option<Loan>, steps: u64) -> String {
+    let mut text = text_of(question);
     let mut loan = match least {
         Some(loan) => one_short(random, loan),
         None => Loan {

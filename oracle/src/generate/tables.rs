@@ -1,5 +1,6 @@
 //! Cases of the writers and of ground terms: good words, words damaged, capacities that fit or are one short.
 
+use super::asked_line;
 use crate::cases::joined;
 use crate::random::{arities, small_question, Maker, Random};
 use crate::search::{search, Loan};
@@ -72,14 +73,7 @@ pub fn write_question(random: &mut Random) -> String {
         _ => {}
     }
     let needed = writers::write_question(&asked, usize::MAX);
-    format!(
-        "writeq\t{}\t{}\t{}\t{}\t{}",
-        asked.unknowns,
-        joined(&asked.arities),
-        asked.equations,
-        joined(&asked.words),
-        capacity(random, needed)
-    )
+    asked_line("writeq", &asked, capacity(random, needed))
 }
 
 pub fn write_answers(random: &mut Random) -> String {
@@ -121,13 +115,7 @@ fn found_list(random: &mut Random) -> writers::AnswerList {
         space: random.between(10, 60),
     };
     let outcome = search(&asked, &loan);
-    writers::AnswerList {
-        arities: asked.arities,
-        end: outcome.end,
-        visited: outcome.visited,
-        answers: outcome.answers,
-        words: outcome.words,
-    }
+    writers::AnswerList::of(asked.arities, outcome)
 }
 
 /// A list by layout alone, with unknowns up to 511 that may repeat.
@@ -141,11 +129,7 @@ fn made_list(random: &mut Random) -> writers::AnswerList {
         for _ in 0..bindings {
             words.push(random.below(512) as u16);
             let budget = random.between(1, 8);
-            let mut maker = Maker {
-                random,
-                unknowns: 512,
-                arities: &arities,
-            };
+            let mut maker = Maker::new(random, 512, &arities);
             let value = maker.term(budget);
             value.write(&mut words);
         }
@@ -162,11 +146,7 @@ fn made_list(random: &mut Random) -> writers::AnswerList {
 pub fn equal(random: &mut Random) -> String {
     let arities = arities(random);
     let budget = random.between(1, 20);
-    let mut maker = Maker {
-        random,
-        unknowns: 0,
-        arities: &arities,
-    };
+    let mut maker = Maker::ground(random, &arities);
     let left = maker.term(budget);
     let right = if maker.random.percent(60) {
         maker.rewritten(&left)
@@ -212,11 +192,7 @@ fn values_of_answer(random: &mut Random, asked: &Question) -> Option<Vec<Term>> 
     }
     let lines = random.pick(&lists);
     let mut values: Vec<Term> = (0..NAMES).map(|i| Term::unknown(i as u16)).collect();
-    let mut maker = Maker {
-        random,
-        unknowns: 0,
-        arities: &asked.arities,
-    };
+    let mut maker = Maker::ground(random, &asked.arities);
     for value in &mut values[..(2 * asked.unknowns) as usize] {
         let budget = maker.random.between(1, 4);
         *value = maker.term(budget);
@@ -243,11 +219,7 @@ pub fn values(random: &mut Random) -> String {
         None
     };
     let values = found.unwrap_or_else(|| {
-        let mut maker = Maker {
-            random,
-            unknowns: 0,
-            arities: &asked.arities,
-        };
+        let mut maker = Maker::ground(random, &asked.arities);
         (0..asked.unknowns).map(|_| maker.term(4)).collect()
     });
     let mut row: Vec<u16> = values.iter().flat_map(Term::words).collect();
@@ -258,12 +230,5 @@ pub fn values(random: &mut Random) -> String {
         6 => asked.equations = wild_number(random),
         _ => {}
     }
-    format!(
-        "values\t{}\t{}\t{}\t{}\t{}",
-        asked.unknowns,
-        joined(&asked.arities),
-        asked.equations,
-        joined(&asked.words),
-        joined(&row)
-    )
+    asked_line("values", &asked, joined(&row))
 }

@@ -3,17 +3,11 @@
 use crate::cases::hex;
 use crate::random::{small_question, Random};
 use crate::terms::*;
-use crate::text::writers::write_term;
+use crate::text::writers::{head, write_term};
 
 /// A question's text, whatever its counts and its nesting are.
 pub fn text_of(question: &Question) -> Vec<u8> {
-    let arities: Vec<String> = question.arities.iter().map(u8::to_string).collect();
-    let mut text = format!(
-        "edition=1\nunknowns={}\narities={}\nequations={}\n",
-        question.unknowns,
-        arities.join(","),
-        question.equations
-    );
+    let mut text = head(question);
     let mut at = 0;
     let mut key = ["left=", "right="].iter().cycle();
     while at < question.words.len() {

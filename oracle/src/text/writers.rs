@@ -1,5 +1,7 @@
 //! The writers of questions and answer lists. They test 3, 8, 6, then 7, and write nothing if they refuse.
 
+use crate::cases::joined;
+use crate::search::Outcome;
 use crate::terms::*;
 use crate::words::*;
 
@@ -19,19 +21,23 @@ pub fn write_question(question: &Question, capacity: usize) -> Result<Vec<u8>, R
     for &start in &starts {
         check_nesting(&question.words, start, 0, &question.arities)?;
     }
-    let arities: Vec<String> = question.arities.iter().map(u8::to_string).collect();
-    let mut text = format!(
-        "edition=1\nunknowns={}\narities={}\nequations={}\n",
-        question.unknowns,
-        arities.join(","),
-        question.equations
-    );
+    let mut text = head(question);
     for (index, &start) in starts.iter().enumerate() {
         text.push_str(if index % 2 == 0 { "left=" } else { "right=" });
         write_term(&question.words, start, &question.arities, &mut text);
         text.push('\n');
     }
     fit(text, capacity)
+}
+
+/// The lines before a question's terms.
+pub fn head(question: &Question) -> String {
+    format!(
+        "edition=1\nunknowns={}\narities={}\nequations={}\n",
+        question.unknowns,
+        joined(&question.arities),
+        question.equations
+    )
 }
 
 /// An answer list as it is lent to its writer.
@@ -42,6 +48,19 @@ pub struct AnswerList {
     pub visited: u64,
     pub answers: u64,
     pub words: Vec<u16>,
+}
+
+impl AnswerList {
+    /// What a run over these arities listed.
+    pub fn of(arities: Vec<u8>, outcome: Outcome) -> AnswerList {
+        AnswerList {
+            arities,
+            end: outcome.end,
+            visited: outcome.visited,
+            answers: outcome.answers,
+            words: outcome.words,
+        }
+    }
 }
 
 /// An answer list's text, for a buffer of `capacity` bytes.

@@ -1,0 +1,118 @@
+-- `children::find_child`: the laws of `Choosing`. The arm for the other steps knows the variant's number only.
+use mathlib.Core.Path.{_≡_}
+use mathlib.Core.List.{[], _∷_}
+use native.Mathlib.Omega.{arith}
+use denote.Enum.Declared.{tagOf}
+use types.Run.{OneOf, miss}
+use Rattle.search.proofs.steps.Step as step
+use Rattle.search.specs.declared.steps.Tails.{Tails}
+use Rattle.search.specs.declared.steps.Step.{Step}
+use Rattle.search.specs.declared.steps.Step.the-variants.{Split}
+use Rattle.children.proofs.Choosing.{nothing-pending, last-within, lent-small, rest-asked, splitting, single}
+use borrow.Author.Needs.{needs}
+use Rattle.children.proofs.find_child.Statement.{statement}
+use Rattle.children.proofs.find_child.Tie as tie
+
+no-split : (s : Step) → OneOf (0 ∷ 1 ∷ 2 ∷ 3 ∷ 5 ∷ []) (tagOf step.the-type s) → (k : Tails) → s ≡ Split k → ⊥
+no-split s o k p = miss (0 ∷ 1 ∷ 2 ∷ 3 ∷ 5 ∷ []) 4 tt (rw p at o)
+
+add-after : tie.Need-add-after
+add-after c = search needs
+
+mul-read-header : tie.Need-mul-read-header
+mul-read-header c = search needs
+
+sub-read-header : tie.Need-sub-read-header
+sub-read-header c = search needs
+
+part-read-header-start : tie.Need-part-read-header-start
+part-read-header-start c = search needs
+
+part-read-header-end : tie.Need-part-read-header-end
+part-read-header-end c = search needs
+
+read-header-requires : tie.Need-read-header-requires
+read-header-requires c κs = search needs
+
+join-pile-requires : tie.Need-join-pile-requires
+join-pile-requires c κs = let P = c .before .before .before .before .before .before .before .before .pre in (P .0, nothing-pending (P .1) (c .before .before .before .read-header .ensures) (c .before .if1 .taken))
+
+same-length : tie.Need-same-length
+same-length c = search needs
+
+returns : tie.Need-returns
+returns c = λ st R. c .before .before .join-pile .ensures st (nothing-pending R (c .before .before .before .before .before .before .read-header .ensures) (c .before .before .before .before .if1 .taken))
+
+add-body : tie.Need-add-body
+add-body c = search needs
+
+add-last : tie.Need-add-last
+add-last c = let R = c .before .before .before .before .before .before .before .before .pre .1 in omega (arith, last-within R (c .before .before .before .read-header .ensures), R .scratch-rows, R .small)
+
+mul-first-of : tie.Need-mul-first-of
+mul-first-of c = search needs
+
+sub-first-of : tie.Need-sub-first-of
+sub-first-of c = search needs
+
+part-first-of-start : tie.Need-part-first-of-start
+part-first-of-start c = search needs
+
+part-first-of-end : tie.Need-part-first-of-end
+part-first-of-end c = let R = c .before .before .before .before .before .before .before .before .before .pre .1 in omega (arith, last-within R (c .before .before .before .before .read-header .ensures), R .scratch-rows, R .small)
+
+first-of-requires : tie.Need-first-of-requires
+first-of-requires c κs = lent-small (c .before .before .before .before .before .before .before .before .before .before .pre .1) (c .before .before .before .before .before .read-header .ensures)
+
+rest-of-requires : tie.Need-rest-of-requires
+rest-of-requires c κs = rest-asked (c .before .before .before .before .before .before .before .before .before .before .before .pre .1) (c .before .before .before .before .before .before .read-header .ensures) (c .before .before .before .before .if1 .left) (c .first-of .ensures)
+
+enum-known-step : tie.Need-enum-known-step
+enum-known-step c = search needs
+
+pick-requires : tie.Need-pick-requires
+pick-requires c κs = record { state = _; first = _; others = _; here = splitting (c .before .before .before .before .before .before .before .before .before .before .before .before .before .before .before .before .pre .1) (c .before .before .before .before .before .before .before .before .before .before .before .read-header .ensures) (c .before .before .before .before .before .before .before .before .before .if1 .left) (c .before .before .before .before .before .first-of .ensures) (c .before .before .before .before .rest-of .ensures) (c .before .before .step .given .1) }
+
+step-on-requires : tie.Need-step-on-requires
+step-on-requires c κs = record { state = _; equation = _; others = _; here = single (c .before .before .before .before .before .before .before .before .before .before .before .before .before .before .pre .1) (c .before .before .before .before .before .before .before .before .before .read-header .ensures) (c .before .before .before .before .before .before .before .if1 .left) (c .before .before .before .first-of .ensures) (c .before .before .rest-of .ensures) (no-split _ (c .before .match .keys2)) }
+
+same-length-2 : tie.Need-same-length-2
+same-length-2 c = search needs
+
+returns-2 : tie.Need-returns-2
+returns-2 c = λ st R. c .before .before .pick .ensures st _ _ (splitting R (c .before .before .before .before .before .before .before .before .before .before .before .before .before .before .read-header .ensures) (c .before .before .before .before .before .before .before .before .before .before .before .before .if1 .left) (c .before .before .before .before .before .before .before .before .first-of .ensures) (c .before .before .before .before .before .before .before .rest-of .ensures) (c .before .before .before .before .before .step .given .1))
+
+same-length-3 : tie.Need-same-length-3
+same-length-3 c = search needs
+
+returns-3 : tie.Need-returns-3
+returns-3 c = λ st R. c .before .before .step-on .ensures st _ _ (single R (c .before .before .before .before .before .before .before .before .before .before .before .before .read-header .ensures) (c .before .before .before .before .before .before .before .before .before .before .if1 .left) (c .before .before .before .before .before .before .first-of .ensures) (c .before .before .before .before .before .rest-of .ensures) (no-split _ (c .before .before .before .before .match .keys2)))
+
+pub find-child-spec : {M : Type 1} → statement M
+find-child-spec =
+    tie.close
+    (tie.spec
+    add-after
+    mul-read-header
+    sub-read-header
+    part-read-header-start
+    part-read-header-end
+    read-header-requires
+    join-pile-requires
+    same-length
+    returns
+    add-body
+    add-last
+    mul-first-of
+    sub-first-of
+    part-first-of-start
+    part-first-of-end
+    first-of-requires
+    rest-of-requires
+    enum-known-step
+    pick-requires
+    step-on-requires
+    same-length-2
+    returns-2
+    same-length-3
+    returns-3)

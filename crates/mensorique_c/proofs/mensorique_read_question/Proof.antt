@@ -1,0 +1,24 @@
+-- `mensorique_c::mensorique_read_question`: the question is read, and the answer told.
+use borrow.Author.Needs.{needs}
+use Rattle.mensorique_c.proofs.mensorique_read_question.Statement.{statement}
+use Rattle.mensorique_c.proofs.mensorique_read_question.Tie as tie
+
+read-question-requires : tie.Need-read-question-requires
+read-question-requires c κs = search needs
+
+tell-question-requires : tie.Need-tell-question-requires
+tell-question-requires c κs = search needs
+
+same-length : tie.Need-same-length
+same-length c = search needs
+
+same-length-2 : tie.Need-same-length-2
+same-length-2 c = search needs
+
+returns : tie.Need-returns
+returns c = let read = c .before .before .before .before .before .before .before .before .before .before .read-question .ensures in rw (← (read .0)) (c .tell-question .ensures .0, (read .1 .0, (read .1 .1, c .tell-question .ensures .1)))
+
+pub mensorique-read-question-spec : {M : Type 1} → statement M
+mensorique-read-question-spec =
+    tie.close
+    (tie.spec read-question-requires tell-question-requires same-length same-length-2 returns)

@@ -1,0 +1,25 @@
+-- `mensorique_c::replies::tell_written`: the length, or the refusal.
+use mathlib.Core.Path.{refl}
+use borrow.Author.Needs.{needs}
+use Rattle.mensorique_c.proofs.replies.tell_written.Statement.{statement}
+use Rattle.mensorique_c.proofs.replies.tell_written.Tie as tie
+
+enum-known-written : tie.Need-enum-known-written
+enum-known-written c = search needs
+
+enum-known-written-2 : tie.Need-enum-known-written-2
+enum-known-written-2 c = search needs
+
+tell-refusal-requires : tie.Need-tell-refusal-requires
+tell-refusal-requires c κs = search needs
+
+returns : tie.Need-returns
+returns c = rw (c .before .written .given .1) (refl, (refl, refl))
+
+returns-2 : tie.Need-returns-2
+returns-2 c = rw (c .before .before .before .written2 .given .1) (c .tell-refusal .ensures .0, (refl, c .tell-refusal .ensures .1))
+
+pub tell-written-spec : {M : Type 1} → statement M
+tell-written-spec =
+    tie.close
+    (tie.spec enum-known-written enum-known-written-2 tell-refusal-requires returns returns-2)

@@ -1,0 +1,104 @@
+-- What a C caller is told: a status, and the later value of each out number. Where a call is granted its numbers are written in the order of the
+-- parameters and the place is left alone; a refusal writes the place and leaves the others alone.
+use Prim.Native.Nat.{ℕ}
+use mathlib.Core.List.{List, [], _∷_}
+use lib.ListN.{getD}
+use Rattle.terms.specs.Bounds.{edition-one}
+use Rattle.terms.specs.Refusal.{number}
+use Rattle.terms.specs.declared.refusal.Refusal.{Refusal}
+use Rattle.search.specs.Ends.{end-number}
+use Rattle.search.specs.Lent.{lent}
+use Rattle.search.specs.declared.limits.Lent.{Lent}
+use Rattle.search.specs.declared.limits.Lent.the-variants as lents
+use Rattle.reader.specs.Questions.{question-into, answer}
+use Rattle.reader.specs.declared.question.Question.{Question}
+use Rattle.reader.specs.declared.question.Question.the-variants as question
+use Rattle.writer.specs.Written.{question-written, list-written}
+use Rattle.writer.specs.declared.written.Written.{Written}
+use Rattle.writer.specs.declared.written.Written.the-variants as written
+use Rattle.same.specs.Answering.{equal-answer, solves-answer}
+use Rattle.same.specs.declared.Equality.{Equality}
+use Rattle.same.specs.declared.Equality.the-variants as equality
+use Rattle.same.specs.declared.Solving.{Solving}
+use Rattle.same.specs.declared.Solving.the-variants as solving
+use Rattle.solver.specs.Result.{told, result, needed}
+use Rattle.solver.specs.declared.Ran.{Ran}
+use Rattle.solver.specs.declared.Ran.the-variants as ran
+
+pub data Reply : Type 0 where
+  granted : (numbers : List ℕ) → Reply
+  refused : Refusal → Reply
+
+-- 0, or the refusal's number
+abbrev pub status : Reply → ℕ
+status (granted numbers) = 0
+status (refused refusal) = number (refusal .cause)
+
+-- the i-th out number, which was n
+abbrev pub out : (i : ℕ) → Reply → (n : ℕ) → ℕ
+out i (granted numbers) n = getD numbers i n
+out i (refused refusal) n = n
+
+-- the place, which was n
+abbrev pub place-out : Reply → (n : ℕ) → ℕ
+place-out (granted numbers) n = n
+place-out (refused refusal) n = refusal .place
+
+-- ---- the entries' answers
+
+-- unknowns, functors, equations, words
+abbrev pub of-question : Question → Reply
+of-question (question.Read unknowns functors equations words) = granted (unknowns ∷ functors ∷ equations ∷ words ∷ [])
+of-question (question.Refused refusal) = refused refusal
+
+-- the text's length
+abbrev pub of-written : Written → Reply
+of-written (written.Length length) = granted (length ∷ [])
+of-written (written.Refused refusal) = refused refusal
+
+-- 1 where they are equal, 0 where they differ
+abbrev pub of-equality : Equality → Reply
+of-equality equality.Equal = granted (1 ∷ [])
+of-equality equality.Differ = granted (0 ∷ [])
+of-equality (equality.Refused refusal) = refused refusal
+
+-- 1 where the values solve the question, 0 where they don't
+abbrev pub of-solving : Solving → Reply
+of-solving solving.Yes = granted (1 ∷ [])
+of-solving solving.No = granted (0 ∷ [])
+of-solving (solving.Refused refusal) = refused refusal
+
+-- the end's number, nodes visited, answers, words
+abbrev pub of-ran : Ran → Reply
+of-ran (ran.Ended ending) = granted (end-number (ending .end) ∷ ending .counts .visited ∷ ending .counts .answers ∷ ending .counts .words ∷ [])
+of-ran (ran.Refused refusal) = refused refusal
+
+-- ---- the calls' replies, by what was lent
+
+abbrev pub read-reply : (arities words : ℕ) (text : List ℕ) → Reply
+read-reply arities words text = of-question (answer (question-into edition-one arities words text))
+
+abbrev pub question-reply : (unknowns : ℕ) (arities : List ℕ) (equations : ℕ) (words : List ℕ) (room : ℕ) → Reply
+question-reply unknowns arities equations words room = of-written (question-written edition-one unknowns arities equations words room)
+
+abbrev pub list-reply : (arities : List ℕ) (end visited answers : ℕ) (words : List ℕ) (room : ℕ) → Reply
+list-reply arities end visited answers words room = of-written (list-written edition-one arities end visited answers words room)
+
+abbrev pub equal-reply : (arities row : List ℕ) → Reply
+equal-reply arities row = of-equality (equal-answer edition-one arities row)
+
+abbrev pub solves-reply : (unknowns : ℕ) (arities : List ℕ) (equations : ℕ) (words row : List ℕ) → Reply
+solves-reply unknowns arities equations words row = of-solving (solves-answer edition-one unknowns arities equations words row)
+
+abbrev pub run-reply : (unknowns : ℕ) (arities : List ℕ) (equations : ℕ) (words : List ℕ) (steps depth size space room : ℕ) → Reply
+run-reply unknowns arities equations words steps depth size space room = of-ran (result (told unknowns arities equations words steps depth size space room))
+
+-- ---- the words of a run's room
+
+-- none where a limit is exceeded
+abbrev pub room-of : Lent → ℕ
+room-of (lents.Within limits) = needed limits
+room-of lents.Above = 0
+
+abbrev pub room-words : (depth size : ℕ) → ℕ
+room-words depth size = room-of (lent 0 depth size)

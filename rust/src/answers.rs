@@ -1,0 +1,169 @@
+//! What a run lists: answers, and how it ended.
+use crate::question::written;
+use crate::refusal::Refusal;
+use crate::term::Term;
+use crate::words;
+use std::fmt;
+
+/// How a run ended. Only [`End::Done`] is final: then every answer is listed. After any other end the list is true but need not be whole.
+#[derive(Clone, Copy, Debug, PartialEq, Eq, Hash)]
+pub enum End {
+    /// Every node was visited and every answer held.
+    Done = 0,
+    /// Another node is due and steps are spent.
+    Steps = 20,
+    /// The due node is deeper than lent.
+    Depth = 21,
+    /// The due node is larger than lent.
+    Size = 22,
+    /// An answer's words don't fit what remains.
+    Space = 23,
+    /// The due node would need unknown 512.
+    Names = 24,
+}
+
+impl End {
+    pub(crate) fn of_number(number: u32) -> End {
+        match number {
+            0 => End::Done,
+            20 => End::Steps,
+            21 => End::Depth,
+            22 => End::Size,
+            23 => End::Space,
+            24 => End::Names,
+            other => unreachable!("the archive is proved to give an end of the table, not {other}"),
+        }
+    }
+}
+
+impl fmt::Display for End {
+    fn fmt(&self, f: &mut fmt::Formatter<'_>) -> fmt::Result {
+        f.write_str(match self {
+            End::Done => "done",
+            End::Steps => "steps",
+            End::Depth => "depth",
+            End::Size => "size",
+            End::Space => "space",
+            End::Names => "names",
+        })
+    }
+}
+
+/// One binding of an answer.
+#[derive(Clone, Debug, PartialEq, Eq)]
+pub struct Binding {
+    /// The unknown's number; new ones are numbered on from the question's.
+    pub unknown: u16,
+    /// It mentions no unknown that is bound in this or an earlier binding.
+    pub value: Term,
+}
+
+/// A solved form: bindings in the order made. An unknown that none binds may have any value.
+pub type Answer = Vec<Binding>;
+
+/// The answers that a run listed, in order.
+#[derive(Clone, Debug, PartialEq, Eq)]
+pub struct Answers {
+    pub(crate) end: End,
+    pub(crate) visited: u64,
+    pub(crate) count: usize,
+    pub(crate) words: Vec<u16>,
+    pub(crate) arities: Vec<u8>,
+}
+
+impl Answers {
+    /// How the run ended.
+    pub fn end(&self) -> End {
+        self.end
+    }
+
+    /// How many nodes were visited.
+    pub fn visited(&self) -> u64 {
+        self.visited
+    }
+
+    /// How many answers are listed.
+    pub fn len(&self) -> usize {
+        self.count
+    }
+
+    /// Whether no answer is listed; only after [`End::Done`] does that mean that there is none.
+    pub fn is_empty(&self) -> bool {
+        self.count == 0
+    }
+
+    /// The words of the list: for each answer its number of bindings, and for each binding the unknown's number and its value's words.
+    pub fn words(&self) -> &[u16] {
+        &self.words
+    }
+
+    /// The list's text form.
+    pub fn text(&self) -> Result<String, Refusal> {
+        written(|text| {
+            words::write_answers(
+                &self.arities,
+                self.end as u64,
+                self.visited,
+                self.count,
+                &self.words,
+                text,
+            )
+        })
+    }
+
+    /// The answers, one after the other.
+    pub fn iter(&self) -> Iter<'_> {
+        Iter {
+            left: self.count,
+            words: &self.words,
+            arities: &self.arities,
+        }
+    }
+}
+
+impl<'a> IntoIterator for &'a Answers {
+    type Item = Answer;
+    type IntoIter = Iter<'a>;
+
+    fn into_iter(self) -> Iter<'a> {
+        self.iter()
+    }
+}
+
+/// Goes through the answers; each is made when it is due.
+#[derive(Clone, Debug)]
+pub struct Iter<'a> {
+    left: usize,
+    words: &'a [u16],
+    arities: &'a [u8],
+}
+
+impl Iter<'_> {
+    fn take_word(&mut self) -> u16 {
+        let word = self.words[0];
+        self.words = &self.words[1..];
+        word
+    }
+}
+
+impl Iterator for Iter<'_> {
+    type Item = Answer;
+
+    fn next(&mut self) -> Option<Answer> {
+        self.left = self.left.checked_sub(1)?;
+        let bindings = self.take_word();
+        let answer = (0..bindings)
+            .map(|_| Binding {
+                unknown: self.take_word(),
+                value: Term::take(&mut self.words, self.arities),
+            })
+            .collect();
+        Some(answer)
+    }
+
+    fn size_hint(&self) -> (usize, Option<usize>) {
+        (self.left, Some(self.left))
+    }
+}
+
+impl ExactSizeIterator for Iter<'_> {}

@@ -1,0 +1,43 @@
+//! Equations between finite sets.
+//!
+//! A [`Question`] is a list of equations between [`Term`]s. A run lists every solved form of it in a fixed order, within lent [`Limits`]; only a run
+//! that ends as [`End::Done`] has listed all. The work is done by an archive whose functions are proved in Rattle; this crate lends them slices, and its own
+//! code is not proved. [`words`] has the same functions over slices alone, without allocation, and
+//! [`archive`] as C has them.
+//!
+//! ```
+//! use mensorique::{End, Limits, Question, Term};
+//!
+//! // {x0,x1} = {f0,f1}: x0 is f0 and x1 is f1, or the other way round.
+//! let mut question = Question::new(2, [0, 0]);
+//! let places = Term::set([Term::Unknown(0), Term::Unknown(1)]);
+//! let courses = Term::set([Term::constant(0), Term::constant(1)]);
+//! question.equate(&places, &courses)?;
+//! let answers = question.run(Limits::default())?;
+//! assert_eq!(answers.end(), End::Done);
+//! assert_eq!(answers.len(), 2);
+//! for answer in &answers {
+//!     for binding in answer {
+//!         println!("x{} = {}", binding.unknown, binding.value);
+//!     }
+//! }
+//! # Ok::<(), mensorique::Refusal>(())
+//! ```
+//!
+//! A refused call has a [`Refusal`]: its cause and its place. Calls may run at the same time; each run has its own [`Room`].
+//!
+//! A call into the archive needs at most 1 MiB of stack (`docs/GUIDE.md` has what was measured).
+//! Terms are cloned, compared and dropped by recursion; 8,192 levels, more than any run lists, are dropped within the 2 MiB of a spawned thread.
+#![warn(missing_docs)]
+
+mod answers;
+pub mod archive;
+mod question;
+mod refusal;
+mod term;
+pub mod words;
+
+pub use answers::{Answer, Answers, Binding, End, Iter};
+pub use question::{equal, Limits, Question, Room};
+pub use refusal::{Cause, Refusal};
+pub use term::Term;

@@ -1,0 +1,210 @@
+//! The entries over slices, without allocation: what `include/mensorique.h` says of them holds here word for word.
+use crate::archive;
+use crate::refusal::Refusal;
+
+/// A question in words.
+#[derive(Clone, Copy, Debug)]
+pub struct Asked<'a> {
+    /// How many unknowns are declared.
+    pub unknowns: usize,
+    /// The arity of each functor.
+    pub arities: &'a [u8],
+    /// How many equations there are.
+    pub equations: usize,
+    /// Two terms for each equation, left then right, with nothing after.
+    pub words: &'a [u16],
+}
+
+/// What [`read_question`] read into its buffers.
+#[derive(Clone, Copy, Debug, PartialEq, Eq)]
+pub struct Counts {
+    /// How many unknowns are declared.
+    pub unknowns: usize,
+    /// How many arities stand at the start of their buffer.
+    pub functors: usize,
+    /// How many equations there are.
+    pub equations: usize,
+    /// How many words stand at the start of their buffer.
+    pub words: usize,
+}
+
+/// How [`run`] ended, and what it counted.
+#[derive(Clone, Copy, Debug, PartialEq, Eq)]
+pub struct Ran {
+    /// The end's number: 0, or 20 to 24.
+    pub end: u32,
+    /// How many nodes were visited.
+    pub visited: u64,
+    /// How many answers are listed.
+    pub answers: u64,
+    /// How many words of answers stand at the start of their buffer.
+    pub words: usize,
+}
+
+/// The words of room that a run of this depth and size needs; 0 where one of them is above its limit.
+pub fn room_words(depth: usize, size: usize) -> usize {
+    // SAFETY: the function takes any numbers.
+    unsafe { archive::mensorique_room_words(depth, size) }
+}
+
+/// Reads a question's text. 256 arities and 4,096 words always suffice.
+pub fn read_question(
+    text: &[u8],
+    arities: &mut [u8],
+    words: &mut [u16],
+) -> Result<Counts, Refusal> {
+    let mut read = Counts {
+        unknowns: 0,
+        functors: 0,
+        equations: 0,
+        words: 0,
+    };
+    let mut place = 0;
+    // SAFETY: each pointer is a slice's, beside that slice's length; the lent slices and numbers are apart, being borrowed so.
+    let status = unsafe {
+        archive::mensorique_read_question(
+            text.as_ptr(),
+            text.len(),
+            arities.as_mut_ptr(),
+            arities.len(),
+            words.as_mut_ptr(),
+            words.len(),
+            &mut read.unknowns,
+            &mut read.functors,
+            &mut read.equations,
+            &mut read.words,
+            &mut place,
+        )
+    };
+    Refusal::told(status, place).map(|()| read)
+}
+
+/// Writes a question as text, and gives the text's length.
+pub fn write_question(asked: Asked<'_>, text: &mut [u8]) -> Result<usize, Refusal> {
+    let (mut length, mut place) = (0, 0);
+    // SAFETY: as in `read_question`.
+    let status = unsafe {
+        archive::mensorique_write_question(
+            asked.unknowns,
+            asked.arities.as_ptr(),
+            asked.arities.len(),
+            asked.equations,
+            asked.words.as_ptr(),
+            asked.words.len(),
+            text.as_mut_ptr(),
+            text.len(),
+            &mut length,
+            &mut place,
+        )
+    };
+    Refusal::told(status, place).map(|()| length)
+}
+
+/// Writes a list of answers as text, and gives the text's length.
+pub fn write_answers(
+    arities: &[u8],
+    end: u64,
+    visited: u64,
+    answers: usize,
+    words: &[u16],
+    text: &mut [u8],
+) -> Result<usize, Refusal> {
+    let (mut length, mut place) = (0, 0);
+    // SAFETY: as in `read_question`.
+    let status = unsafe {
+        archive::mensorique_write_answers(
+            arities.as_ptr(),
+            arities.len(),
+            end,
+            visited,
+            answers,
+            words.as_ptr(),
+            words.len(),
+            text.as_mut_ptr(),
+            text.len(),
+            &mut length,
+            &mut place,
+        )
+    };
+    Refusal::told(status, place).map(|()| length)
+}
+
+/// Are the two ground terms of a row equal?
+pub fn equal(arities: &[u8], row: &[u16]) -> Result<bool, Refusal> {
+    let (mut equal, mut place) = (0, 0);
+    // SAFETY: as in `read_question`.
+    let status = unsafe {
+        archive::mensorique_equal(
+            arities.as_ptr(),
+            arities.len(),
+            row.as_ptr(),
+            row.len(),
+            &mut equal,
+            &mut place,
+        )
+    };
+    Refusal::told(status, place).map(|()| equal == 1)
+}
+
+/// Do the ground values of a row, one for each unknown in order, solve a question?
+pub fn solves(asked: Asked<'_>, row: &[u16]) -> Result<bool, Refusal> {
+    let (mut solves, mut place) = (0, 0);
+    // SAFETY: as in `read_question`.
+    let status = unsafe {
+        archive::mensorique_solves(
+            asked.unknowns,
+            asked.arities.as_ptr(),
+            asked.arities.len(),
+            asked.equations,
+            asked.words.as_ptr(),
+            asked.words.len(),
+            row.as_ptr(),
+            row.len(),
+            &mut solves,
+            &mut place,
+        )
+    };
+    Refusal::told(status, place).map(|()| solves == 1)
+}
+
+/// Lists the answers of a question into `answers`, in working room of at least [`room_words`] words.
+pub fn run(
+    asked: Asked<'_>,
+    steps: u64,
+    depth: usize,
+    size: usize,
+    answers: &mut [u16],
+    room: &mut [u16],
+) -> Result<Ran, Refusal> {
+    let mut ran = Ran {
+        end: 0,
+        visited: 0,
+        answers: 0,
+        words: 0,
+    };
+    let mut place = 0;
+    // SAFETY: as in `read_question`.
+    let status = unsafe {
+        archive::mensorique_run(
+            asked.unknowns,
+            asked.arities.as_ptr(),
+            asked.arities.len(),
+            asked.equations,
+            asked.words.as_ptr(),
+            asked.words.len(),
+            steps,
+            depth,
+            size,
+            answers.as_mut_ptr(),
+            answers.len(),
+            room.as_mut_ptr(),
+            room.len(),
+            &mut ran.end,
+            &mut ran.visited,
+            &mut ran.answers,
+            &mut ran.words,
+            &mut place,
+        )
+    };
+    Refusal::told(status, place).map(|()| ran)
+}
