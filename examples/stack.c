@@ -36,12 +36,22 @@ static void equal(int sets) {
     status = mensorique_equal(arities, 2, row, n, &same, &place);
 }
 
-static void solves(int sets) {
+static void solve_nested(int sets, size_t asked, size_t given) {
     uint32_t solved;
-    size_t place, levels = sets ? 1023 : 2047;
-    size_t n = nest(words, nest(words, 0, levels, sets, MENSORIQUE_UNKNOWN(0)), levels, sets, MENSORIQUE_UNKNOWN(1));
-    size_t m = nest(row, nest(row, 0, levels, sets, MENSORIQUE_FUNCTOR(0)), levels, sets, MENSORIQUE_FUNCTOR(0));
+    size_t place;
+    size_t n = nest(words, nest(words, 0, asked, sets, MENSORIQUE_UNKNOWN(0)), asked, sets, MENSORIQUE_UNKNOWN(1));
+    size_t m = nest(row, nest(row, 0, given, sets, MENSORIQUE_FUNCTOR(0)), given, sets, MENSORIQUE_FUNCTOR(0));
     status = mensorique_solves(2, arities, 2, 1, words, n, row, m, &solved, &place);
+}
+
+static void solves(int sets) {
+    size_t levels = sets ? 1023 : 2047;
+    solve_nested(sets, levels, levels);
+}
+
+/* As deep as a question may be that is compared as it stands: with its values put in it has 6,144 words. */
+static void solves_plainly(int sets) {
+    solve_nested(sets, sets ? 512 : 1024, sets ? 1023 : 2047);
 }
 
 /* Writes a question as deep as text may be, and reads it. */
@@ -118,7 +128,7 @@ int main(void) {
     static const struct {
         const char *name;
         void (*made)(int);
-    } calls[] = {{"nothing", none}, {"equal", equal}, {"solves", solves}, {"write and read a question", write_and_read}, {"write a list", write_list}, {"run", run}};
+    } calls[] = {{"nothing", none}, {"equal", equal}, {"solves", solves}, {"solves, plainly", solves_plainly}, {"write and read a question", write_and_read}, {"write a list", write_list}, {"run", run}};
     int above = 0;
     for (size_t i = 0; i < sizeof calls / sizeof calls[0]; i++)
         for (int sets = 0; sets <= 1; sets++) {

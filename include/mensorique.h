@@ -32,7 +32,7 @@
  * THREADS. There is no global state: calls may run at the same time as long as none writes what another uses. For runs that means that each has its own
  * room and its own words for answers.
  *
- * STACK. No function allocates, and each is proved to end. mensorique_equal and mensorique_solves go at most 4,096 levels deep, some 240 bytes each, and
+ * STACK. No function allocates, and each is proved to end. mensorique_equal and mensorique_solves go at most 3,072 levels deep, some 250 bytes each, and
  * mensorique_read_question at most 200; the others don't recurse. MENSORIQUE_STACK bytes are enough for every call: that is measured
  * (examples/stack.c), not proved.
  */

@@ -49,6 +49,10 @@ fn tree(height: usize, turned: bool) -> Term {
     set(&members)
 }
 
+fn chains_to(length: usize) -> Vec<Term> {
+    (0..length).map(|n| chain(n, Term::empty())).collect()
+}
+
 /// Rows of two terms. On the nested ones a comparison that tries each pair of members in both directions would not come back.
 pub fn pairs() -> Vec<(&'static str, Term, Term)> {
     let ladder = |rungs| {
@@ -57,7 +61,7 @@ pub fn pairs() -> Vec<(&'static str, Term, Term)> {
         })
     };
     let alike = set(&vec![Term::empty(); 1000]);
-    let mut chains: Vec<Term> = (0..60).map(|length| chain(length, Term::empty())).collect();
+    let mut chains = chains_to(60);
     let upwards = set(&chains);
     chains.reverse();
     vec![
@@ -91,6 +95,15 @@ pub fn solutions() -> Vec<(&'static str, Question, Vec<Term>)> {
     let mut members = vec![x1; 19];
     members.push(x0.clone());
     let twenty = question(2, &ARITIES, &[(set(&vec![x0; 20]), set(&members))]);
+    let over = |tail: &Term| Term::with(Term::empty(), tail.clone());
+    let tails: Vec<Term> = members.iter().map(over).collect();
+    let tailed = question(
+        2,
+        &ARITIES,
+        &[(set(&vec![tails[19].clone(); 20]), set(&tails))],
+    );
+    let mut longer = chains_to(61);
+    longer.reverse();
     let chains = vec![chain(1999, Term::empty()); 2];
     let sets = vec![nested(999, Term::empty()), nested(1000, Term::empty())];
     vec![
@@ -101,5 +114,10 @@ pub fn solutions() -> Vec<(&'static str, Question, Vec<Term>)> {
         ),
         ("{x0 ×20} = {x1 ×19, x0}, one value", twenty.clone(), chains),
         ("{x0 ×20} = {x1 ×19, x0}, two values", twenty, sets),
+        (
+            "{{{}\\|x0} ×20} = {{{}\\|x1} ×19, {{}\\|x0}}",
+            tailed,
+            vec![set(&chains_to(60)), set(&longer)],
+        ),
     ]
 }

@@ -1,6 +1,6 @@
 -- A question's words and then its values', as one row of terms: the values stand where they are noted, and the equations hold with them exactly if the
 -- values solve the question.
-use Prim.Native.Nat.{ℕ, zero, suc, _+_, _<_}
+use Prim.Native.Nat.{ℕ, zero, suc, _+_, _<_, _≤_}
 use mathlib.Core.Path.{_≡_, refl, ap, ap₂, sym, _∙_}
 use mathlib.Core.List.{List, [], _∷_, _++_, append-assoc}
 use mathlib.Core.Bool.{_&&_}
@@ -74,6 +74,9 @@ module _ {b : Bounds} {arities ws : List ℕ} {n from m : ℕ} (q : WithValues b
 
   value-count : length (terms-from b arities ws from) ≡ n
   value-count = ap length from-values ∙ q .unknowns
+
+  pub asked-within : from ≤ length ws
+  asked-within = omega (arith, ap length (q .worded), length-append (row b (q .sides)) (row b (q .values)), q .length-sides)
 
   pub asked-standings : Standings b arities ws from n
   asked-standings = record { unknowns = n; terms = asked-terms; enough = omega (arith, value-count); few = q .few }

@@ -54,18 +54,21 @@ module _ {h : Held} {ranks : List ℕ} {p : ℕ} (o : OfSet h ranks p) where
   pub member-in : member-of h p < length (h .words)
   member-in = opened (o .ranked .placed) p (o .inside) (o .member) .member .inside
 
-  whole : valued h p ≡ with (valued h (member-of h p)) (valued h (end (h .bounds) (h .arities) (h .words) (p + 1)))
+  pub rest-in : rest-of h p < length (h .words)
   unfolding rest-of
-  whole = opened (o .ranked .placed) p (o .inside) (o .member) .whole ∙ ap (λ t. with (valued h (member-of h p)) t) (resolving (o .ranked .placed) _ ends-in .same)
+  rest-in = resolving (o .ranked .placed) _ ends-in .known .inside
 
-  pub set-told : {above r : ℕ} → Above (getD ranks (member-of h p) 0) above → r ≡ max above (getD ranks (end (h .bounds) (h .arities) (h .words) (p + 1)) 0) → RankTold h p r
+  whole : valued h p ≡ with (valued h (member-of h p)) (valued h (rest-of h p))
+  whole = opened (o .ranked .placed) p (o .inside) (o .member) .whole
+
+  pub set-told : {above r : ℕ} → Above (getD ranks (member-of h p) 0) above → r ≡ max above (getD ranks (rest-of h p) 0) → RankTold h p r
   unfolding rank
   set-told {above} {r} a e =
       record {
         told = λ b.
             let s = a .told (omega arith) in
             let m = o .ranked .ranked (member-of h p) member-in .told (omega arith) .rank in
-            let t = o .ranked .ranked _ ends-in .told (omega arith) .rank in
+            let t = o .ranked .ranked (rest-of h p) rest-in .told (omega arith) .rank in
             record { known = low-known (o .ranked .placed) (o .inside) (omega (arith, o .member)); rank = ap rank whole ∙ omega (arith, e, s, m, t) };
       }
 

@@ -14,6 +14,7 @@ use crate::places::resolve;
 use crate::places::term_end;
 use crate::ranks::rank_all;
 use crate::settle::settle;
+use crate::spread::spreads_little;
 
 // Do the first so many equations of the words hold?
 fn each_holds(
@@ -127,9 +128,6 @@ fn place_values(arities: &[u8], words: &[u16], from: usize, starts: &mut [u16])
     }
 }
 
-// Up to so many words are compared as they are: however often their values stand in the question, that is soon done.
-const SHORT: usize = 128;
-
 // Do the first so many equations hold with the values that start at `from`?
 pub fn values_hold(
     arities: &[u8],
@@ -144,7 +142,7 @@ pub fn values_hold(
     ensures { λ r. ⌜ r ≡ holding (in-order (terms-from edition-one (now (arities .entry)) (now (words .entry)) from)) equations (terms-from edition-one (now (arities .entry)) (now (words .entry)) 0) ⌝ }
 {
     place_values(arities, words, from, starts);
-    if words.len() < SHORT {
+    if spreads_little(&words[..from], starts, words.len()) {
         return all_hold(arities, words, starts, labels, equations);
     }
     settled_hold(arities, words, starts, labels, equations)

@@ -3,7 +3,7 @@
 //
 // A client's contracts cite `specs/Answering.antt`, what the two answer. `places` finds the way about words that hold terms, `classes` keeps labels of
 // places whose terms are equal, `compare` and `scan` compare the terms at two places, `ranks` and `settle` do so beforehand where values may stand in many
-// places, `hold` goes through equations.
+// places, which `spread` tells, `hold` goes through equations.
 ghost use mathlib.Core.Path.{_≡_};
 ghost use lib.ListN.{drop};
 ghost use Rattle.terms.specs.Bounds.{edition-one};
@@ -21,6 +21,7 @@ pub mod places;
 pub mod ranks;
 pub mod scan;
 pub mod settle;
+pub mod spread;
 
 use crate::classes::blank;
 use crate::hold::all_hold;

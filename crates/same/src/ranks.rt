@@ -30,13 +30,14 @@ fn above(rank: u16) -> u16
     NONE
 }
 
-// A set's rank, by its member's and its rest's. It is not known where an unknown is the tail: members of such a set may stand in many others.
+// A set's rank, by its member's and its rest's.
 fn rank_of_set(arities: &[u8], words: &[u16], starts: &[u16], ranks: &[u16], p: usize) -> u16
     requires { ⌜ OfSet (held (now arities) (now words) (now starts)) (now ranks) p ⌝ }
     ensures { λ r. ⌜ RankTold (held (now (arities .entry)) (now (words .entry)) (now (starts .entry))) p r ⌝ }
 {
     let member = ranks[resolve(words, starts, p + 1)];
-    let rest = ranks[term_end(arities, words, p + 1)];
+    let after = term_end(arities, words, p + 1);
+    let rest = ranks[resolve(words, starts, after)];
     larger(above(member), rest)
 }
 

@@ -1,8 +1,8 @@
 use native.Mathlib.Omega.{arith}
 use borrow.Author.Needs.{needs}
-use Rattle.same.specs.Places.{member-of}
+use Rattle.same.specs.Places.{member-of, rest-of}
 use Rattle.same.specs.Opened.{resolvable}
-use Rattle.same.proofs.Ranking.{next-in, ends-in, member-in, set-told}
+use Rattle.same.proofs.Ranking.{next-in, ends-in, member-in, rest-in, set-told}
 use Rattle.same.proofs.ranks.rank_of_set.Statement.{statement}
 use Rattle.same.proofs.ranks.rank_of_set.Tie as tie
 
@@ -26,11 +26,16 @@ add-term-end c = search needs
 term-end-requires : tie.Need-term-end-requires
 term-end-requires c κs = let o = c .before .before .before .before .before .before .pre in record { unknowns = _; terms = o .ranked .placed .terms; inside = next-in o }
 
+resolve-requires-2 : tie.Need-resolve-requires-2
+resolve-requires-2 c κs = let o = c .before .before .before .before .before .before .before .pre in resolvable (o .ranked .placed) _ (rw (c .term-end .ensures) (ends-in o))
+
 mul-rest : tie.Need-mul-rest
-mul-rest c = let o = c .before .before .before .before .before .before .before .pre in omega (arith, c .term-end .ensures, ends-in o, o .ranked .long)
+unfolding rest-of
+mul-rest c = let o = c .before .before .before .before .before .before .before .before .pre in omega (arith, rw (c .before .term-end .ensures) at (c .resolve2 .ensures), rest-in o, o .ranked .long)
 
 shared-slice-read-rest : tie.Need-shared-slice-read-rest
-shared-slice-read-rest c = let o = c .before .before .before .before .before .before .before .before .pre in omega (arith, c .before .term-end .ensures, ends-in o, o .ranked .long)
+unfolding rest-of
+shared-slice-read-rest c = let o = c .before .before .before .before .before .before .before .before .before .pre in omega (arith, rw (c .before .before .term-end .ensures) at (c .before .resolve2 .ensures), rest-in o, o .ranked .long)
 
 above-requires : tie.Need-above-requires
 above-requires c κs = search needs
@@ -39,8 +44,8 @@ larger-requires : tie.Need-larger-requires
 larger-requires c κs = search needs
 
 returns : tie.Need-returns
-unfolding member-of
-returns c = set-told (c .before .before .before .before .before .before .before .before .before .before .pre) (rw (c .before .before .before .before .before .resolve .ensures) at (c .before .above .ensures)) (rw (c .before .before .before .term-end .ensures) at (c .larger .ensures))
+unfolding member-of rest-of
+returns c = set-told (c .before .before .before .before .before .before .before .before .before .before .before .pre) (rw (c .before .before .before .before .before .before .resolve .ensures) at (c .before .above .ensures)) (rw (c .before .before .before .before .term-end .ensures) at (rw (c .before .before .before .resolve2 .ensures) at (c .larger .ensures)))
 
 pub rank-of-set-spec : {M : Type 1} → statement M
 rank-of-set-spec =
@@ -52,6 +57,7 @@ rank-of-set-spec =
     shared-slice-read-member
     add-term-end
     term-end-requires
+    resolve-requires-2
     mul-rest
     shared-slice-read-rest
     above-requires
