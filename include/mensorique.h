@@ -33,8 +33,8 @@
  * room and its own words for answers.
  *
  * STACK. No function allocates, and each is proved to end. mensorique_equal and mensorique_solves go at most 3,072 levels deep, some 250 bytes each, and
- * mensorique_read_question at most 200; the others don't recurse. MENSORIQUE_STACK bytes are enough for every call: that is measured
- * (examples/stack.c), not proved.
+ * mensorique_read_question at most 200; otherwise only the digits of a written number are a recursion. MENSORIQUE_STACK bytes are enough for every call:
+ * that is measured (examples/stack.c), not proved.
  */
 #ifndef MENSORIQUE_H
 #define MENSORIQUE_H

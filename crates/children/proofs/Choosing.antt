@@ -11,6 +11,7 @@ use Rattle.search.specs.State.{State, size-equations}
 use Rattle.search.specs.Classify.{classify}
 use Rattle.search.specs.declared.steps.Tails.{Tails}
 use Rattle.search.specs.declared.steps.Step.the-variants.{Split}
+use Rattle.rows.specs.At.{first-found, first-size}
 use Rattle.rows.specs.declared.bind.Rest.{Rest}
 use Rattle.rows.specs.declared.first.First.{First}
 use Rattle.rows.specs.declared.header.Header.{Header}
@@ -20,7 +21,7 @@ use Rattle.children.specs.Next.{Ready}
 use Rattle.children.specs.Quiet.{Quiet}
 use Rattle.children.specs.Single.{Single}
 use Rattle.children.specs.Splitting.{Splitting}
-use Rattle.children.proofs.Reading.{lent-part, Begins, no-equation, some-equation, header-read, pending-within, rest-parts, first-found, first-sizes}
+use Rattle.children.proofs.Reading.{lent-part, Begins, no-equation, some-equation, header-read, pending-within, rest-parts}
 
 module _ {arities l : List ℕ} {at number lent scratch most : ℕ} {st : State} (R : Ready arities l at number lent scratch most st) {h : Header}
     (read : h ≡ header-in (take (at + 5 - at) (drop at l))) where
@@ -46,10 +47,10 @@ module _ {arities l : List ℕ} {at number lent scratch most : ℕ} {st : State}
     first-is : f
         ≡ record { step = classify (begins .first .left) (begins .first .right); right = size (begins .first .left); end = size (begins .first .left) + size (begins .first .right) }
     first-is =
-        found ∙ ap (first-in edition-one arities) (lent-part l (at + 8) (h .pending) ∙ rw pending-is) ∙ first-found R (begins .cut)
+        found ∙ ap (first-in edition-one arities) (lent-part l (at + 8) (h .pending) ∙ rw pending-is) ∙ first-found (R .holds) (begins .cut) (R .sound)
 
     pub rest-asked : HeaderParts at h (f .end)
-    rest-asked = rw (header-read R read, first-is) (rest-parts R _ (omega (arith, first-sizes R (begins .cut))))
+    rest-asked = rw (header-read R read, first-is) (rest-parts R _ (omega (arith, first-size st (begins .cut))))
 
     module _ {rest : Rest} (left : rest ≡ rest-after at h (f .end)) where
       rest-is : rest ≡ rest-after at (header-for st) (size (begins .first .left) + size (begins .first .right))

@@ -1,5 +1,5 @@
 -- Nothing is pending: what is told of the children, and what the function that joins the pile is asked.
-use Prim.Native.Nat.{ℕ, _+_, _<_}
+use Prim.Native.Nat.{ℕ, _+_, _*_, _<_}
 use mathlib.Core.Path.{_≡_, refl, sym, ap, _∙_}
 use mathlib.Core.List.{List, [], _∷_}
 use native.Mathlib.Omega.{arith}
@@ -12,14 +12,14 @@ use Rattle.rows.specs.declared.bind.Rest.{Rest}
 use Rattle.rows.specs.declared.header.Header.{Header}
 use Rattle.rows.specs.First.{HeaderParts, rest-after}
 use Rattle.rows.specs.Joining.{JoinParts, Joined}
-use Rattle.rows.specs.JoinMade.{join-parts, join-made}
+use Rattle.rows.specs.JoinMade.{join-parts, join-made, join-beside}
 use Rattle.rows.specs.Row.{header-for}
 use Rattle.children.specs.declared.next.Next.{Next}
 use Rattle.children.specs.declared.next.Next.the-variants.{Spent, Due}
-use Rattle.children.specs.Next.{Child, next-made}
+use Rattle.children.specs.Next.{Kept, next-made}
 use Rattle.children.specs.Quiet.{Quiet}
-use Rattle.children.proofs.Only.{no-child, only-passed, only-due, only-made}
-use Rattle.children.proofs.Reading.{Begins, held, rest-parts}
+use Rattle.children.proofs.Only.{unopened, no-child, only-passed, only-due, only-made}
+use Rattle.children.proofs.Reading.{Begins, held, kept-beside, rest-parts}
 
 no-entry : (ns : List Named) → size-named ns ≡ 0 → ns ≡ []
 unfolding size-named
@@ -50,8 +50,8 @@ module _ {arities l : List ℕ} {at : ℕ} {header : Header} {number lent scratc
   unfolding header-for
   pile-is = ap (λ h. h .pile) (Q .header-is)
 
-  pub answer-told : header .pile ≡ 0 → Child l at number lent most st (Spent 0) l
-  answer-told z = no-child l at number lent most st (no-joined st (Q .quiet) (no-entry (st .pile) (sym pile-is ∙ z)))
+  pub answer-told : header .pile ≡ 0 → Kept l at number lent scratch most st (Spent 0) l
+  answer-told z = unopened scratch (no-child l at number lent most st (no-joined st (Q .quiet) (no-entry (st .pile) (sym pile-is ∙ z))))
 
   pub quiet-parts : HeaderParts at header 0
   quiet-parts = rw (Q .header-is) (rest-parts (Q .ready) 0 (omega arith))
@@ -63,18 +63,23 @@ module _ {arities l : List ℕ} {at : ℕ} {header : Header} {number lent scratc
     one : children st ≡ heir st (entry .first .name) ∷ []
     one = one-joined st (Q .quiet) (entry .cut)
 
-    pub join-passed : 0 < number → Child l at number lent most st (Spent 0) l
-    join-passed = only-passed l at number lent most st one
+    pub join-passed : 0 < number → Kept l at number lent scratch most st (Spent 0) l
+    join-passed h = unopened scratch (only-passed l at number lent most st one h)
 
-    pub join-due : number ≡ 0 → most ≡ 0 → Child l at number lent most st (Due 0) l
-    join-due = only-due l at number lent most st one
+    pub join-due : number ≡ 0 → most ≡ 0 → Kept l at number lent scratch most st (Due 0) l
+    join-due e f = unopened scratch (only-due l at number lent most st one e f)
 
-    pub join-asked : {rest : Rest} → 0 < most → rest ≡ rest-after at header 0 → JoinParts l rest scratch (at + (lent + 8)) lent (header .next)
+    pub join-asked : {rest : Rest} → 0 < most → rest ≡ rest-after at header 0 → JoinParts l rest (scratch + 3 * (lent + 8)) (at + (lent + 8)) lent (header .next)
     unfolding header-for
     join-asked h e = rw (e, Q .header-is) (join-parts (held (Q .ready) h) (Q .quiet) (entry .cut))
 
     pub join-told : {rest : Rest} {a : Made} {x : Next} {r : List ℕ} → number ≡ 0 → 0 < most → rest ≡ rest-after at header 0
-        → Joined arities l rest scratch (at + (lent + 8)) lent (header .next) a r → x ≡ next-made a → Child l at number lent most st x r
+        → Joined arities l rest (scratch + 3 * (lent + 8)) (at + (lent + 8)) lent (header .next) a r → x ≡ next-made a → Kept l at number lent scratch most st x r
     unfolding header-for
     join-told z h e J f =
-        only-made l at number lent most st one z h (join-made (held (Q .ready) h) (Q .quiet) (entry .cut) (rw (e, Q .header-is) at J)) f
+        let H = held (Q .ready) h in
+        let K = rw (e, Q .header-is) at J in
+        record {
+          child = only-made l at number lent most st one z h (join-made H (Q .quiet) (entry .cut) K) f;
+          keeps = kept-beside (Q .ready) h (join-beside H (Q .quiet) (entry .cut) K);
+        }

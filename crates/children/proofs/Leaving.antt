@@ -4,7 +4,7 @@ use mathlib.Core.Path.{_≡_, refl, sym, ap, _∙_}
 use mathlib.Core.List.{List, [], _∷_, _++_}
 use native.Mathlib.Omega.{arith}
 use lib.ListN.{getD}
-use Rattle.room.specs.Room.{seg, getD-seg}
+use Rattle.room.specs.Room.{getD-seg}
 use Rattle.terms.specs.Bounds.{edition-one}
 use Rattle.terms.specs.Term.{Term, with, words}
 use Rattle.terms.specs.Answers.{Named}
@@ -15,11 +15,12 @@ use Rattle.search.specs.Classify.{classify}
 use Rattle.search.specs.StepView.{Stepped, stepped, splits}
 use Rattle.search.specs.declared.steps.Tails.{Tails}
 use Rattle.search.specs.declared.steps.Step.the-variants.{Split}
+use Rattle.rows.specs.At.{first-words, first-size}
 use Rattle.children.specs.declared.next.Next.the-variants.{Spent}
 use Rattle.children.specs.Next.{Ready, Child}
 use Rattle.children.proofs.Joining.{no-joined, one-joined}
 use Rattle.children.proofs.Only.{no-child, only-passed}
-use Rattle.children.proofs.Reading.{first-words, first-sizes, children-by-first}
+use Rattle.children.proofs.Reading.{children-by-first}
 use Rattle.children.proofs.Stepping.{only-one}
 
 -- the left side of a split has a member
@@ -36,10 +37,10 @@ module _ {arities l : List ℕ} {at number lent scratch most : ℕ} {st : State}
   no-split {e} {es} cut k p =
       let v : Stepped (e .left) (e .right) (Split k) = rw p at (stepped (e .left) (e .right)) in
       let place : at + 8 + 0 ≡ at + 8 = omega arith in
-      let some : 0 < size-equations (st .pending) = omega (arith, first-sizes R cut, size-positive (e .left)) in
+      let some : 0 < size-equations (st .pending) = omega (arith, first-size st cut, size-positive (e .left)) in
       unmarked
       (ap (λ (j : ℕ). getD l j 0) (sym place) ∙ sym (getD-seg l (at + 8) (size-equations (st .pending)) 0 some)
-      ∙ ap (λ (ws : List ℕ). getD ws 0 0) (first-words R cut) ∙ begins-marked _ (left-member v .1 .1))
+      ∙ ap (λ (ws : List ℕ). getD ws 0 0) (first-words (R .holds) cut) ∙ begins-marked _ (left-member v .1 .1))
 
   by-pile : (ns : List Named) → st .pending ≡ [] → st .pile ≡ ns → Child l at number lent most st (Spent 0) l
   by-pile [] q p = no-child l at number lent most st (no-joined st q p)

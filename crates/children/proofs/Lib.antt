@@ -1,7 +1,11 @@
+pub mod Advancing
 pub mod Choosing
+pub mod Continuing
 pub mod Joining
+pub mod Leaving
 pub mod Numbering
 pub mod Only
+pub mod Opening
 pub mod Passing
 pub mod Radices
 pub mod Reading
@@ -9,4 +13,4 @@ pub mod Repicking
 pub mod Splitting
 pub mod Starting
 pub mod Stepping
-pub mod Leaving
+pub mod Telling

@@ -14,11 +14,14 @@ use Rattle.rows.specs.Row.{Makes, becomes}
 use Rattle.children.specs.declared.next.Next.{Next}
 use Rattle.children.specs.declared.next.Next.the-variants.{Spent, Due}
 use Rattle.children.specs.Became.{never-dead}
-use Rattle.children.specs.Next.{dead-ends, Tells, all-dead, then-live, then-due, Child, next-made}
+use Rattle.children.specs.Next.{dead-ends, Tells, all-dead, then-live, then-due, Child, Kept, next-made}
 
 -- nothing is written
 untouched : {l : List ℕ} {at number size most : ℕ} {st : State} {x : Next} → Tells l (at + (size + 8)) size (drop number (children st)) most l x → Child l at number size most st x l
 untouched t = record { long = refl; below = refl; tells = t }
+
+pub unopened : {l : List ℕ} {at number size most : ℕ} {st : State} {x : Next} (scratch : ℕ) → Child l at number size most st x l → Kept l at number size scratch most st x l
+unopened scratch c = record { child = c; keeps = refl }
 
 module _ (l : List ℕ) (at number size most : ℕ) (st : State) where
   pub none-left : drop number (children st) ≡ [] → Child l at number size most st (Spent 0) l

@@ -5,14 +5,11 @@ use mathlib.Core.List.{List, _++_}
 use native.Mathlib.Omega.{arith}
 use lib.ListN.{length, length-append}
 use Rattle.room.specs.Room.{seg, put, length-put, seg-put-same}
-use Rattle.room.specs.Parts.{earlier, seg-put}
+use Rattle.room.specs.Parts.{earlier, later, seg-put}
 use Rattle.rows.specs.declared.bind.Rest.{Rest}
 use Rattle.splits.specs.declared.sides.Sides.{Sides}
 use Rattle.splits.specs.Opened.{Parent, Opened, few-members}
-
--- the parent with other digits
-abbrev pub again : Parent → List ℕ → List ℕ → Parent
-again p ds es = record { t = p .t; u = p .u; st = p .st; ds = ds; es = es }
+use Rattle.children.specs.Picks.{again}
 
 -- the numbers, for `omega`
 pub record Numbers (l : List ℕ) (at : ℕ) (sides : Sides) (lent scratch : ℕ) : Type 0 where
@@ -43,6 +40,10 @@ module _ {arities l : List ℕ} {at : ℕ} {rest : Rest} {sides : Sides} {lent n
 
     pub same-before : (k n : ℕ) → k + n ≤ picks → seg r k n ≡ seg l k n
     same-before k n h = rw e (seg-put out l (earlier h))
+
+    -- the numbers after the picks
+    pub same-told : length out ≡ sides .n + sides .m → seg r (picks + lent) 3 ≡ seg l (picks + lent) 3
+    same-told h = let N = numbers in rw e (seg-put out l (later (omega arith)))
 
     pub repicked : (ds es : List ℕ) → out ≡ ds ++ es → length ds ≡ sides .n → length es ≡ sides .m → Opened arities r at rest sides lent next scratch (again p ds es)
     repicked ds es w a b =

@@ -1,35 +1,25 @@
 -- A row whose first equation is a split: its two sides stand first in the body, and then what is left of the row.
-use Prim.Native.Nat.{ℕ, _+_, _*_, _≤_, _<_}
-use mathlib.Core.Path.{_≡_, sym, ap, _∙_}
-use mathlib.Core.List.{List, [], _∷_, _++_, append-assoc}
+use Prim.Native.Nat.{ℕ, _+_, _≤_, _<_}
+use mathlib.Core.Path.{_≡_, _∙_}
+use mathlib.Core.List.{List, [], _∷_}
 use native.Mathlib.Omega.{arith}
-use lib.ListN.{length, take, length-append}
-use lib.Seq.{take-at}
-use Rattle.room.specs.Room.{seg, take-seg}
+use lib.ListN.{take}
 use Rattle.terms.specs.Bounds.{edition-one}
 use Rattle.terms.specs.Term.{words, size}
 use Rattle.terms.specs.Formed.{Equation, row}
-use Rattle.terms.specs.Answers.{Named}
-use Rattle.terms.specs.Flat.{size-positive, length-words}
 use Rattle.search.specs.State.{State, pend, size-equations, size-named, state-size}
 use Rattle.search.specs.Classify.{tails}
 use Rattle.search.specs.Children.{children}
 use Rattle.search.specs.Children as steps
 use Rattle.search.specs.declared.steps.Tails.{Tails}
 use Rattle.rows.specs.declared.bind.Rest.{Rest}
-use Rattle.rows.specs.States.{pending-words}
 use Rattle.rows.specs.Row.{Rested, header-for}
 use Rattle.rows.specs.First.{rest-after, holds-rest}
-use Rattle.rows.specs.At.{sound-worded}
+use Rattle.rows.specs.At.{sound-worded, first-formed, first-size, sides-stand, few-bindings}
 use Rattle.splits.specs.Open.{Open}
 use Rattle.children.specs.Splitting.{Splitting}
 use Rattle.children.proofs.Radices.{Sets, sets}
-use Rattle.children.proofs.Reading.{first-formed, first-words, first-sizes, children-by-first}
-
-few-named : (ns : List Named) → 2 * length ns ≤ size-named ns
-unfolding size-named
-few-named [] = omega arith
-few-named (n ∷ ns) = omega (arith, few-named ns, size-positive (n .value))
+use Rattle.children.proofs.Reading.{children-by-first}
 
 -- the numbers of what is left of the row
 pub record RestNumbers (rest : Rest) (at end lent : ℕ) : Type 0 where
@@ -49,24 +39,18 @@ module _ {arities l : List ℕ} {at : ℕ} {rest : Rest} {right end : ℕ} {kind
   both-sets = sets (e .left) (e .right) (S .step-is)
 
   sizes : size-equations (st .pending) ≡ size (e .left) + size (e .right) + size-equations es
-  sizes = first-sizes (S .ready) (S .cut)
+  sizes = first-size st (S .cut)
 
   body-fits : size-equations (st .pending) + size-named (st .pile) + size-named (st .bindings) ≤ lent
   unfolding state-size
   body-fits = S .ready .fits
 
-  stands : seg l (at + 8) (size (e .left) + size (e .right)) ≡ L ++ R
-  stands =
-      sym (take-seg l (at + 8) (size-equations (st .pending)) (size (e .left) + size (e .right)) (omega (arith, sizes)))
-      ∙ ap (take (size (e .left) + size (e .right))) (first-words (S .ready) (S .cut) ∙ sym (append-assoc L R (pending-words edition-one es)))
-      ∙ take-at (L ++ R) (pending-words edition-one es) (size (e .left) + size (e .right)) (omega (arith, length-append L R, length-words edition-one (e .left), length-words edition-one (e .right)))
-
   pub open-there : Open arities l at right end lent scratch (st .next) (e .left) (e .right)
   open-there = record {
     worded = sound-worded (S .ready .sound);
-    formed-t = first-formed (S .ready) (S .cut) .0;
-    formed-u = first-formed (S .ready) (S .cut) .1;
-    stands = rw (S .end-is) stands;
+    formed-t = first-formed (S .ready .sound) (S .cut) .0;
+    formed-u = first-formed (S .ready .sound) (S .cut) .1;
+    stands = rw (S .end-is) (sides-stand (S .ready .holds) (S .cut));
     right-is = S .right-is;
     end-is = S .end-is;
     fits = omega (arith, S .end-is, sizes, body-fits);
@@ -87,7 +71,7 @@ module _ {arities l : List ℕ} {at : ℕ} {rest : Rest} {right end : ℕ} {kind
   rest-numbers = rw (S .rest-is) (record {
     at-is = omega (arith, S .end-is);
     fits = omega (arith, S .end-is, sizes, body-fits);
-    bindings-small = omega (arith, few-named (st .bindings), body-fits, S .ready .lent-small);
+    bindings-small = omega (arith, few-bindings (st .bindings), body-fits, S .ready .lent-small);
   })
 
   pub children-are : children st ≡ steps.split (tails (e .left) (e .right)) (e .left) (e .right) (pend es st)

@@ -1,5 +1,5 @@
 -- The first equation leaves no choice: what is told of the children, and what the function that takes the step is asked.
-use Prim.Native.Nat.{ℕ, _+_, _-_, _≤_, _<_}
+use Prim.Native.Nat.{ℕ, _+_, _-_, _*_, _≤_, _<_}
 use mathlib.Core.Path.{_≡_, refl, sym, ap, _∙_}
 use mathlib.Core.List.{List, [], _∷_}
 use native.Mathlib.Omega.{arith}
@@ -14,6 +14,7 @@ use Rattle.search.specs.Children as search
 use Rattle.search.specs.declared.steps.Tails.{Tails}
 use Rattle.search.specs.declared.steps.Step.{Step}
 use Rattle.search.specs.declared.steps.Step.the-variants.{Drop, Bind, Postpone, Decompose, Split, Dead}
+use Rattle.rows.specs.At.{first-size}
 use Rattle.rows.specs.declared.bind.Made.{Made}
 use Rattle.rows.specs.declared.bind.Rest.{Rest}
 use Rattle.rows.specs.declared.first.First.{First}
@@ -22,10 +23,10 @@ use Rattle.rows.specs.First.{subject-in}
 use Rattle.rows.specs.Only.{StepFor, StepAt, Taken}
 use Rattle.children.specs.declared.next.Next.{Next}
 use Rattle.children.specs.declared.next.Next.the-variants.{Spent, Due}
-use Rattle.children.specs.Next.{Child, next-made}
+use Rattle.children.specs.Next.{Kept, next-made}
 use Rattle.children.specs.Single.{Single}
-use Rattle.children.proofs.Only.{only-passed, only-due, only-made}
-use Rattle.children.proofs.Reading.{lent-part, held, pending-within, first-sizes, children-by-first}
+use Rattle.children.proofs.Only.{unopened, only-passed, only-due, only-made}
+use Rattle.children.proofs.Reading.{lent-part, held, kept-beside, pending-within, children-by-first}
 
 -- a step that is no split has one child
 pub only-one : (k : Step) (t u : Term) (st : State) → ((j : Tails) → k ≡ Split j → ⊥) → ((node : Node) × search.take k t u st ≡ node ∷ [])
@@ -45,20 +46,20 @@ module _ {arities l : List ℕ} {at : ℕ} {rest : Rest} {first : First} {number
   one : children st ≡ child .0 ∷ []
   one = children-by-first (S .ready) (S .cut) ∙ child .1
 
-  pub step-passed : 0 < number → Child l at number lent most st (Spent 0) l
-  step-passed = only-passed l at number lent most st one
+  pub step-passed : 0 < number → Kept l at number lent scratch most st (Spent 0) l
+  step-passed h = unopened scratch (only-passed l at number lent most st one h)
 
-  pub step-due : number ≡ 0 → most ≡ 0 → Child l at number lent most st (Due 0) l
-  step-due = only-due l at number lent most st one
+  pub step-due : number ≡ 0 → most ≡ 0 → Kept l at number lent scratch most st (Due 0) l
+  step-due e f = unopened scratch (only-due l at number lent most st one e f)
 
   pub right-within : first .right ≤ first .end
   right-within = rw (S .first-is) (omega arith)
 
   pub first-within : at + 8 + first .end ≤ scratch
-  first-within = rw (S .first-is) (omega (arith, first-sizes (S .ready) (S .cut), pending-within (S .ready)))
+  first-within = rw (S .first-is) (omega (arith, first-size st (S .cut), pending-within (S .ready)))
 
   step-for : {s : Subject} → 0 < most → s ≡ subject-in edition-one (take (at + 8 + first .end - (at + 8)) (drop (at + 8) l)) (at + 8) (first .right) (first .end)
-      → StepFor arities l at (at + (lent + 8)) scratch lent (first .right) (first .end) next rest s (first .step) st e es
+      → StepFor arities l at (at + (lent + 8)) (scratch + 3 * (lent + 8)) lent (first .right) (first .end) next rest s (first .step) st e es
   step-for h q = record {
     held = held (S .ready) h;
     cut = S .cut;
@@ -71,11 +72,14 @@ module _ {arities l : List ℕ} {at : ℕ} {rest : Rest} {first : First} {number
   }
 
   pub step-asked : {s : Subject} → 0 < most → s ≡ subject-in edition-one (take (at + 8 + first .end - (at + 8)) (drop (at + 8) l)) (at + 8) (first .right) (first .end)
-      → StepAt arities l at (at + (lent + 8)) scratch lent (first .right) (first .end) next rest s (first .step)
+      → StepAt arities l at (at + (lent + 8)) (scratch + 3 * (lent + 8)) lent (first .right) (first .end) next rest s (first .step)
   step-asked h q = record { state = st; first = e; others = es; here = step-for h q }
 
   pub step-told : {s : Subject} {a : Made} {x : Next} {r : List ℕ} → number ≡ 0 → 0 < most → s ≡ subject-in edition-one (take (at + 8 + first .end - (at + 8)) (drop (at + 8) l)) (at + 8) (first .right) (first .end)
-      → Taken arities l at (at + (lent + 8)) scratch lent (first .right) (first .end) next rest s (first .step) a r → x ≡ next-made a → Child l at number lent most st x r
+      → Taken arities l at (at + (lent + 8)) (scratch + 3 * (lent + 8)) lent (first .right) (first .end) next rest s (first .step) a r → x ≡ next-made a → Kept l at number lent scratch most st x r
   step-told z h q T f =
       let k : first .step ≡ classify (e .left) (e .right) = ap (λ g. g .step) (S .first-is) in
-      only-made l at number lent most st one z h (T .taken st e es (child .0) (step-for h q) (ap (λ (j : Step). search.take j (e .left) (e .right) (pend es st)) k ∙ child .1) (λ j p. S .no-split j (sym k ∙ p))) f
+      record {
+        child = only-made l at number lent most st one z h (T .taken st e es (child .0) (step-for h q) (ap (λ (j : Step). search.take j (e .left) (e .right) (pend es st)) k ∙ child .1) (λ j p. S .no-split j (sym k ∙ p))) f;
+        keeps = kept-beside (S .ready) h (T .beside st e es (step-for h q));
+      }

@@ -46,6 +46,11 @@ pub record Child (l : List ℕ) (at number size most : ℕ) (st : State) (a : Ne
   pub below : seg r 0 (at + (size + 8)) ≡ seg l 0 (at + (size + 8))
   pub tells : Tells l (at + (size + 8)) size (drop number (children st)) most r a
 
+-- the same, where no split is opened: what stood open in the first three rows of scratch still does
+pub record Kept (l : List ℕ) (at number size scratch most : ℕ) (st : State) (a : Next) (r : List ℕ) : Type 0 where
+  pub child : Child l at number size most st a r
+  pub keeps : seg r scratch (3 * (size + 8)) ≡ seg l scratch (3 * (size + 8))
+
 -- ---- a state that has one child
 
 -- what is told of the only child, by what became of it

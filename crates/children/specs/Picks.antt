@@ -7,18 +7,21 @@ use lib.ListN.{length, drop}
 use Rattle.room.specs.Room.{seg}
 use Rattle.terms.specs.Term.{members, kernel}
 use Rattle.terms.specs.Shape.{is-unknown}
-use Rattle.search.specs.State.{Node}
+use Rattle.search.specs.State.{Node, dead}
 use Rattle.search.specs.Classify.{tails}
 use Rattle.search.specs.Children.{split}
 use Rattle.search.specs.declared.steps.Tails.{Tails}
 use Rattle.search.specs.declared.steps.Tails.the-variants.{Neither, Left, Right, Different, Same}
 use Rattle.rows.specs.declared.bind.Rest.{Rest}
+use Rattle.rows.specs.declared.bind.Made.the-variants.{Live}
 use Rattle.turns.specs.Numbers.{Digits}
 use Rattle.turns.specs.Picking.{radix, child-number}
 use Rattle.splits.specs.declared.sides.Sides.{Sides}
 use Rattle.splits.specs.Digits.{copies}
 use Rattle.splits.specs.Opened.{Parent, Opened}
+use Rattle.splits.specs.Due.{child}
 use Rattle.children.specs.declared.next.Next.{Next}
+use Rattle.children.specs.declared.next.Next.the-variants.{Node as Found}
 use Rattle.children.specs.Next.{Tells}
 
 -- is the left tail an unknown, and is the right one?
@@ -58,8 +61,33 @@ pub record PicksAt (arities l : List ℕ) (at : ℕ) (rest : Rest) (sides : Side
   pub p : Parent
   pub here : Picks arities l at rest sides kind first second lent next scratch most p
 
--- the rows up to the parent's are as they were
-pub record Picked (l : List ℕ) (at lent most : ℕ) (p : Parent) (a : Next) (r : List ℕ) : Type 0 where
+-- the child whose picks these are may be opened, and is a dead end
+pub record Ended (arities l : List ℕ) (at : ℕ) (rest : Rest) (sides : Sides) (kind : Tails) (first second lent next scratch most : ℕ) (p : Parent) : Type 0 where
+  pub here : Picks arities l at rest sides kind first second lent next scratch most p
+  pub may : 0 < most
+  pub ended : child p ≡ dead
+
+pub record EndedAt (arities l : List ℕ) (at : ℕ) (rest : Rest) (sides : Sides) (kind : Tails) (first second lent next scratch most : ℕ) : Type 0 where
+  pub p : Parent
+  pub here : Ended arities l at rest sides kind first second lent next scratch most p
+
+-- ---- what is told of the children
+
+-- the parent with other digits
+abbrev pub again : Parent → List ℕ → List ℕ → Parent
+again p ds es = record { t = p .t; u = p .u; st = p .st; ds = ds; es = es }
+
+-- the picks are those of the child so many further on
+pub record Further (arities l : List ℕ) (at : ℕ) (rest : Rest) (sides : Sides) (kind : Tails) (first second lent next scratch most : ℕ) (p : Parent) (k : ℕ) : Type 0 where
+  pub ds : List ℕ
+  pub es : List ℕ
+  pub here : Picks arities l at rest sides kind first second lent next scratch most (again p ds es)
+  pub place-at : place (again p ds es) ≡ place p + k
+
+-- the rows up to the parent's and the numbers after the picks are as they were; where a child was opened, the picks are its own
+pub record Picked (arities l : List ℕ) (at : ℕ) (rest : Rest) (sides : Sides) (kind : Tails) (first second lent next scratch most : ℕ) (p : Parent) (a : Next) (r : List ℕ) : Type 0 where
   pub long : length r ≡ length l
   pub below : seg r 0 (at + (lent + 8)) ≡ seg l 0 (at + (lent + 8))
+  pub told : seg r (scratch + (lent + 8) + (lent + 8) + lent) 3 ≡ seg l (scratch + (lent + 8) + (lent + 8) + lent) 3
   pub tells : Tells l (at + (lent + 8)) lent (drop (place p) (all-children p)) most r a
+  pub further : (k : ℕ) → a ≡ Found k Live → Further arities r at rest sides kind first second lent next scratch most p k

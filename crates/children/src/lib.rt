@@ -3,20 +3,28 @@
 //     next    what is told of a row's children
 //     pick    the children of a split, one choice of picks after the other
 //     quiet   the child of a row in which nothing is pending
+//     shown   the sides of a split that stands open
 //     single  the child of a row whose first equation leaves no choice
 //
-// In specs/, `Next` is what is asked of a row and told of its children; `Quiet`, `Single` and `Splitting` are what is asked of a row by how its children
-// come, and `Picks` of a split that is opened; `Became` says what a node is by what became of it.
+// The first three rows of scratch are a split's: once opened, it stands there until another split is opened, and its next child is found by advancing the
+// picks. In specs/, `Next` is what is asked of a row and told of its children, and `Shown` the same with the split that stands open; `Quiet`, `Single` and
+// `Splitting` are what is asked of a row by how its children come, and `Picks` and `Sides` of a split that is opened; `Became` says what a node is by what
+// became of it.
+ghost use Prim.Native.Nat.{ℕ, _+_};
 ghost use Rattle.search.specs.State.{State};
-ghost use Rattle.children.specs.Next.{Ready, Child};
+ghost use Rattle.children.specs.Next.{Ready};
+ghost use Rattle.children.specs.Shown.{Looks, Opened, OpenedAt, Opens};
 
 pub mod next;
 pub mod pick;
 pub mod quiet;
+pub mod shown;
 pub mod single;
 
+use next::Looked;
 use next::Next;
 use pick::pick;
+use pick::pick_on;
 use quiet::join_pile;
 use rows::first::first_of;
 use rows::first::read_header;
@@ -34,14 +42,15 @@ fn find_child(
     size: usize,
     scratch: usize,
     most: usize,
-) -> Next
+) -> Looked
     requires { ⌜ ((st : State) × Ready (now arities) (now room) at number size scratch most st) ⌝ }
-    ensures { λ r. ⌜ ((st : State) → Ready (now (arities .entry)) (now (room .entry)) at number size scratch most st → Child (now (room .entry)) at number size most st r (now (room .exit))) ⌝ }
+    ensures { λ r. ⌜ ((st : State) → Ready (now (arities .entry)) (now (room .entry)) at number size scratch most st → Looks (now (room .entry)) at number size scratch most st r (now (room .exit))) ⌝ }
 {
     let after = at + 5;
     let header = read_header(&room[at..after]);
     if header.pending == 0 {
-        return join_pile(arities, room, at, header, number, size, scratch, most);
+        let next = join_pile(arities, room, at, header, number, size, scratch, most);
+        return Looked { next, opens: false };
     }
     let body = at + HEADER;
     let last = body + header.pending;
@@ -49,32 +58,38 @@ fn find_child(
     let rest = rest_of(at, header, first.end);
     let step = first.step;
     match step {
-        Step::Split(tails) => pick(
-            arities,
-            room,
-            at,
-            rest,
-            first.right,
-            first.end,
-            tails,
-            number,
-            size,
-            header.next,
-            scratch,
-            most,
-        ),
-        _ => step_on(
-            arities,
-            room,
-            at,
-            rest,
-            first,
-            number,
-            size,
-            header.next,
-            scratch,
-            most,
-        ),
+        Step::Split(tails) => {
+            let next = pick(
+                arities,
+                room,
+                at,
+                rest,
+                first.right,
+                first.end,
+                tails,
+                number,
+                size,
+                header.next,
+                scratch,
+                most,
+            );
+            Looked { next, opens: true }
+        }
+        _ => {
+            let next = step_on(
+                arities,
+                room,
+                at,
+                rest,
+                first,
+                number,
+                size,
+                header.next,
+                scratch,
+                most,
+            );
+            Looked { next, opens: false }
+        }
     }
 }
 
@@ -88,14 +103,32 @@ pub fn next_child(
     size: usize,
     scratch: usize,
     most: usize,
-) -> Next
+) -> Looked
     requires { ⌜ ((st : State) × Ready (now arities) (now room) at number size scratch most st) ⌝ }
-    ensures { λ r. ⌜ ((st : State) → Ready (now (arities .entry)) (now (room .entry)) at number size scratch most st → Child (now (room .entry)) at number size most st r (now (room .exit))) ⌝ }
+    ensures { λ r. ⌜ ((st : State) → Ready (now (arities .entry)) (now (room .entry)) at number size scratch most st → Looks (now (room .entry)) at number size scratch most st r (now (room .exit))) ⌝ }
 {
     if 0 < number {
         if room[at + HEADER] != 1 {
-            return Next::Spent(0);
+            return Looked {
+                next: Next::Spent(0),
+                opens: false,
+            };
         }
     }
     find_child(arities, room, at, number, size, scratch, most)
+}
+
+// The children of the row at `at` after the one that was opened last, where the row's split still stands open in scratch.
+pub fn next_pick(
+    arities: &[u8],
+    room: &mut [u16],
+    at: usize,
+    size: usize,
+    scratch: usize,
+    most: usize,
+) -> Next
+    requires { ⌜ OpenedAt (now arities) (now room) at size scratch most ⌝ }
+    ensures { λ r. ⌜ ((st : State) (last : ℕ) → Opened (now (arities .entry)) (now (room .entry)) at size scratch most st last → Opens (now (room .entry)) at (last + 1) size scratch most st r (now (room .exit))) ⌝ }
+{
+    pick_on(arities, room, at, size, scratch, most)
 }

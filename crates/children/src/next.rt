@@ -12,6 +12,12 @@ pub enum Next {
     Due(usize),
 }
 
+// What is told of a row's children, and whether the row's split stands open in scratch then.
+pub struct Looked {
+    pub next: Next,
+    pub opens: bool,
+}
+
 // The only child of a row, by what became of it.
 pub fn told_of(made: Made) -> Next
     ensures { λ r. ⌜ r ≡ next-made made ⌝ }

@@ -1,6 +1,6 @@
 // A row in which nothing is pending: its only child is the pile joined, and with no pile it is an answer.
 ghost use Rattle.search.specs.State.{State};
-ghost use Rattle.children.specs.Next.{Child};
+ghost use Rattle.children.specs.Next.{Kept};
 ghost use Rattle.children.specs.Quiet.{Quiet};
 use crate::next::Next;
 use crate::next::told_of;
@@ -9,7 +9,7 @@ use rows::header::HEADER;
 use rows::header::Header;
 use rows::join::join;
 
-// The children of the row at `at` from `number` on.
+// The children of the row at `at` from `number` on. Its pile is laid out after the three rows of scratch in which a split may stand open.
 pub fn join_pile(
     arities: &[u8],
     room: &mut [u16],
@@ -21,7 +21,7 @@ pub fn join_pile(
     most: usize,
 ) -> Next
     requires { ⌜ ((st : State) × Quiet (now arities) (now room) at header number size scratch most st) ⌝ }
-    ensures { λ r. ⌜ ((st : State) → Quiet (now (arities .entry)) (now (room .entry)) at header number size scratch most st → Child (now (room .entry)) at number size most st r (now (room .exit))) ⌝ }
+    ensures { λ r. ⌜ ((st : State) → Quiet (now (arities .entry)) (now (room .entry)) at header number size scratch most st → Kept (now (room .entry)) at number size scratch most st r (now (room .exit))) ⌝ }
 {
     if header.pile == 0 {
         return Next::Spent(0);
@@ -34,5 +34,6 @@ pub fn join_pile(
     }
     let rest = rest_of(at, header, 0);
     let to = at + (size + HEADER);
-    told_of(join(arities, room, rest, scratch, to, size, header.next))
+    let aside = scratch + 3 * (size + HEADER);
+    told_of(join(arities, room, rest, aside, to, size, header.next))
 }

@@ -20,6 +20,7 @@ use crate::put::put_name;
 use terms::bounds::FIRST_FUNCTOR;
 use terms::bounds::FIRST_UNKNOWN;
 use terms::bounds::MEMBER as ADDING;
+use terms::bounds::NESTING;
 
 // What a word stands for: a functor with the number of its arguments.
 pub enum Symbol {
@@ -149,7 +150,7 @@ fn write_word(symbol: Symbol, stack: &mut [u16], depth: usize, text: &mut [u8], 
 pub fn write_term(arities: &[u8], words: &[u16], from: usize, text: &mut [u8], at: usize) -> Passage
     ensures { λ r. ⌜ Passed (now (text .entry)) at (term-at edition-one (now (arities .entry)) (now (words .entry)) from) r (now (text .exit)) ⌝ }
 {
-    let mut stack = [0u16; 200];
+    let mut stack = [0u16; NESTING];
     let mut depth = 0;
     let mut next = at;
     let mut p = from;

@@ -1,3 +1,4 @@
 pub mod Copying
+pub mod Eight
 pub mod Replacing
 pub mod Word

@@ -1,12 +1,12 @@
 -- A list of words in which each word x is replaced by the words ws. On prefix words this is substitution: x is an unknown's
 -- word, and ws are the words of its value.
 --
--- In order: the definitions; one step; two sources joined; how long the result is; nothing to replace, before and after; the
--- words before the first x. Not here: as much of the result as fits a capacity (`Fitting`).
+-- In order: the definitions; one step; two sources joined; how long the result is; nothing to replace, before and after;
+-- lists without x; the words before the first x. Not here: as much of the result as fits a capacity (`Fitting`).
 use mathlib.Core.Path.{_≡_, refl, sym, ap, _∙_}
-use mathlib.Core.Bool.{Bool, true, false, cond}
+use mathlib.Core.Bool.{Bool, true, false, cond, false≢true}
 use mathlib.Core.List.{List, [], _∷_, _++_, append-assoc, append-nil}
-use Prim.Native.Nat.{ℕ, suc, _+_, _*_, _≤_, _<_}
+use Prim.Native.Nat.{ℕ, zero, suc, _+_, _*_, _≤_, _<_}
 use native.Mathlib.Omega.{arith}
 use native.Mathlib.Nat.{zero-mul, suc-mul}
 use lib.ListN.{length, take, getD, length-append}
@@ -25,6 +25,11 @@ replaced x ws (w ∷ s) = image x ws w ++ replaced x ws s
 unfoldable pub count : ℕ → List ℕ → ℕ
 count x [] = 0
 count x (w ∷ s) = cond (eqb w x) (suc (count x s)) (count x s)
+
+-- x is none of the words
+unfoldable pub clear : ℕ → List ℕ → Bool
+clear x [] = true
+clear x (w ∷ s) = cond (eqb w x) false (clear x s)
 
 -- the words before the first x
 unfoldable pub before : ℕ → List ℕ → List ℕ
@@ -118,16 +123,38 @@ module _ (x : ℕ) (ws : List ℕ) where
       by-test (eqb w x) (λ e. rw e replaced-nil)
       (λ e. rw (e, replaced-cons, image-other w (eqb-false w x e)) (ap (λ (r : List ℕ). w ∷ r) (replaced-before s)))
 
--- ---- the words before the first x
-
 module _ (x : ℕ) where
+  -- ---- lists without x
+
+  pub clear-nil : clear x [] ≡ true
+  unfolding clear
+  clear-nil = refl
+
+  pub clear-other : (w : ℕ) (s : List ℕ) → (w ≡ x → ⊥) → clear x (w ∷ s) ≡ clear x s
+  unfolding clear
+  clear-other w s e = rw (ne-eqb w x e)
+
+  -- there is an x at place i
+  pub clear-not : (s : List ℕ) (i : ℕ) → i < length s → getD s i 0 ≡ x → clear x s ≡ false
+  unfolding clear
+  clear-not [] i h e = absurd (omega arith)
+  clear-not (w ∷ s) zero h e = rw (eq-eqb w x e)
+  clear-not (w ∷ s) (suc i) h e = by-test (eqb w x) (λ q. rw q) (λ q. rw q (clear-not s i (omega arith) e))
+
+  -- ---- the words before the first x
+
   pub before-same : (w : ℕ) (s : List ℕ) → w ≡ x → before x (w ∷ s) ≡ []
   unfolding before
   before-same w s e = rw (eq-eqb w x e)
 
-  pub before-other : (w : ℕ) (s : List ℕ) → (w ≡ x → ⊥) → before x (w ∷ s) ≡ w ∷ before x s
-  unfolding before
-  before-other w s e = rw (ne-eqb w x e)
+  -- a part without x is passed
+  pub before-append : (s t : List ℕ) → clear x s ≡ true → before x (s ++ t) ≡ s ++ before x t
+  unfolding clear before
+  before-append [] t h = refl
+  before-append (w ∷ s) t h =
+      by-test (eqb w x)
+      (λ e. absurd (false≢true (rw e at h)))
+      (λ e. rw e (ap (λ (r : List ℕ). w ∷ r) (before-append s t (rw e at h))))
 
   pub length-before : (s : List ℕ) → length (before x s) ≤ length s
   unfolding before

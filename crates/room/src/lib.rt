@@ -4,11 +4,13 @@
 // A client's contracts cite `specs/Room.antt` (`seg`, `put`), `specs/Parts.antt` (`Apart`, where the parts of a call lie),
 // `specs/Replaced.antt` and `specs/Fitting.antt`.
 ghost use mathlib.Core.Path.{_≡_};
+ghost use mathlib.Core.Bool.{cond};
+ghost use mathlib.Core.List.{[]};
 ghost use Prim.Native.Nat.{min};
 ghost use lib.ListN.{length};
 ghost use Rattle.room.specs.Room.{seg, put, Within};
 ghost use Rattle.room.specs.Parts.{CopyParts, ReplaceParts};
-ghost use Rattle.room.specs.Replaced.{replaced, before};
+ghost use Rattle.room.specs.Replaced.{replaced, clear, before};
 ghost use Rattle.room.specs.Fitting.{fitting, told};
 
 // Copies the n words at `from` to the place `to`.
@@ -35,13 +37,49 @@ pub fn copy_in(room: &mut [u16], to: usize, words: &[u16])
     }
 }
 
-// Copies those of the n words at `from` that stand before the first x, and answers how many they are.
+// Copies the eight words at `from`, unless one of them is x; answers whether it did. They are read before any is written, so that a machine may take them
+// all at once.
+fn copy_eight(room: &mut [u16], from: usize, x: u16, to: usize) -> bool
+    requires { ⌜ CopyParts (now room) from 8 to ⌝ }
+    ensures { λ r. ⌜ r ≡ clear x (seg (now (room .entry)) from 8) ⌝ }
+    ensures { λ r. ⌜ now (room .exit) ≡ put (now (room .entry)) to (cond r (seg (now (room .entry)) from 8) []) ⌝ }
+{
+    let a = room[from];
+    let b = room[from + 1];
+    let c = room[from + 2];
+    let d = room[from + 3];
+    let e = room[from + 4];
+    let f = room[from + 5];
+    let g = room[from + 6];
+    let h = room[from + 7];
+    if a == x || b == x || c == x || d == x || e == x || f == x || g == x || h == x {
+        return false;
+    }
+    room[to] = a;
+    room[to + 1] = b;
+    room[to + 2] = c;
+    room[to + 3] = d;
+    room[to + 4] = e;
+    room[to + 5] = f;
+    room[to + 6] = g;
+    room[to + 7] = h;
+    true
+}
+
+// Copies those of the n words at `from` that stand before the first x, and answers how many they are: eight at a time while
+// none of the eight is x, then one by one.
 fn copy_before(room: &mut [u16], from: usize, n: usize, x: u16, to: usize) -> usize
     requires { ⌜ CopyParts (now room) from n to ⌝ }
     ensures { λ r. ⌜ r ≡ length (before x (seg (now (room .entry)) from n)) ⌝ }
     ensures { λ _. ⌜ now (room .exit) ≡ put (now (room .entry)) to (before x (seg (now (room .entry)) from n)) ⌝ }
 {
     let mut run = 0;
+    while 8 <= n - run {
+        if !copy_eight(room, from + run, x, to + run) {
+            break;
+        }
+        run += 8;
+    }
     while run < n {
         let w = room[from + run];
         if w == x {
@@ -96,11 +134,11 @@ fn replace_word(
     Copied::Done(1)
 }
 
-// `replace` of any number of words.
+// `replace` of any number of words, for parts that are seldom one.
 //
 // A run of words that are not x is copied at one go, no longer than the capacity allows, so that a word costs one
-// comparison with x and one with the run's bound. It ends at the last word, at an x, or where the capacity does.
-fn replace_all(
+// comparison with x, and eight words one with the run's bound. It ends at the last word, at an x, or where the capacity does.
+pub fn replace_all(
     room: &mut [u16],
     from: usize,
     n: usize,

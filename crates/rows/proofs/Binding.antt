@@ -1,20 +1,20 @@
 -- The pieces of a binding written one after the other: what is written changes nothing of what they are read from.
-use Prim.Native.Nat.{ℕ, suc, _+_, _-_, _^_, _≤_, _<_}
-use mathlib.Core.Path.{_≡_, refl, sym, ap, _∙_}
+use Prim.Native.Nat.{ℕ, _+_, _-_, _^_, _≤_, _<_}
+use mathlib.Core.Path.{_≡_, sym, ap, _∙_}
 use mathlib.Core.List.{List, [], _∷_, _++_, append-assoc}
 use native.Mathlib.Omega.{arith}
-use lib.ListN.{length, set, length-append, length-set}
-use Rattle.room.specs.Room.{seg, put, length-put, length-seg, put-nil, put-put, put-more, put-one}
-use Rattle.room.specs.Parts.{Apart, ReplaceParts, CopyParts, apart-part, seg-put}
+use lib.ListN.{length, set, length-append}
+use Rattle.room.specs.Room.{seg, put, length-put, length-seg, put-put, put-more}
+use Rattle.room.specs.Parts.{ReplaceParts, CopyParts, apart-part, seg-put}
 use Rattle.room.specs.Replaced.{replaced}
-use Rattle.room.specs.Fitting.{fitting, told, told-of-le, told-of-lt}
+use Rattle.room.specs.Fitting.{fitting, told, further}
 use Rattle.room.specs.declared.Copied.{Copied}
 use Rattle.room.specs.declared.Copied.the-variants.{Done, Full}
 use Rattle.terms.specs.Bounds.{edition-one}
 use Rattle.rows.specs.declared.bind.Rest.{Rest}
-use Rattle.rows.specs.declared.pile.Part.the-variants.{Entries, Others}
+use Rattle.rows.specs.declared.pile.Part.the-variants.{Entries}
 use Rattle.rows.specs.Pile.{selection}
-use Rattle.rows.specs.Wrote.{Wrote, further, wrote-replaced, wrote-more, wrote-length, full-more, done-fits, done-length}
+use Rattle.rows.specs.Wrote.{Wrote, wrote-full, wrote-all, wrote-replaced, wrote-more, wrote-length, full-more, done-fits, done-length}
 use Rattle.rows.specs.Bind.{BindParts, bind-part, pile-parts, pending-piece, pile-piece, last-piece}
 
 -- r has the same words as r₀ where a binding reads
@@ -80,15 +80,7 @@ module _ {r₀ : List ℕ} {rest : Rest} {by m to capacity : ℕ} (P : BindParts
       omega (arith, length-append b ((x - 1000) ∷ seg r₀ by m), length-seg r₀ (rest .at + rest .pending + rest .pile) (rest .bound) (omega (arith, P .rest-within)), length-seg r₀ by m (P .by-within))
 
   pub last-full : (x : ℕ) → capacity < rest .bound + 1 + m → Wrote r₀ to capacity (last-piece r₀ rest x by m) Full r₀
-  last-full x h =
-      let l = length-last x in
-      record {
-        out = [];
-        room = sym (put-nil r₀ to);
-        within = omega arith;
-        tells = sym (told-of-lt capacity (last-piece r₀ rest x by m) (omega arith));
-        whole = λ f. absurd (omega arith);
-      }
+  last-full x h = wrote-full r₀ to (last-piece r₀ rest x by m) (omega (arith, length-last x))
 
   module _ (h : rest .bound + 1 + m ≤ capacity) where
     pub bindings-parts : CopyParts r₀ (rest .at + rest .pending + rest .pile) (rest .bound) to
@@ -134,10 +126,4 @@ module _ {r₀ : List ℕ} {rest : Rest} {by m to capacity : ℕ} (P : BindParts
             let place : to + rest .bound + 1 ≡ to + length start = omega arith in
             let whole : r₂ ≡ put r₀ to (bindings ++ ((x - 1000) ∷ seg r₀ by m)) =
             f ∙ rw (s .value, named, place, put-put start r₀ (seg r₀ by m) to, append-assoc) in
-            record {
-              out = last-piece r₀ rest x by m;
-              room = whole;
-              within = omega (arith, length-last x);
-              tells = sym (told-of-le capacity (last-piece r₀ rest x by m) (omega (arith, length-last x)) ∙ ap Done (length-last x));
-              whole = λ g. refl;
-            }
+            wrote-all (last-piece r₀ rest x by m) (length-last x) h whole

@@ -1,7 +1,7 @@
 -- A child's row finished piece after piece, in the order of the code.
-use Prim.Native.Nat.{ℕ, suc, _+_, _-_, _^_, _≤_, _<_}
-use mathlib.Core.Path.{_≡_, refl, sym, ap, _∙_}
-use mathlib.Core.List.{List, [], _∷_, _++_, append-nil}
+use Prim.Native.Nat.{ℕ, _+_, _-_, _^_, _≤_, _<_}
+use mathlib.Core.Path.{_≡_, sym, _∙_}
+use mathlib.Core.List.{List, [], _++_, append-nil}
 use native.Mathlib.Omega.{arith}
 use lib.ListN.{length}
 use Rattle.room.specs.Room.{seg, put, Within}
@@ -14,11 +14,11 @@ use Rattle.rows.specs.declared.bind.Rest.{Rest}
 use Rattle.rows.specs.declared.bind.Made.{Made}
 use Rattle.rows.specs.declared.bind.Made.the-variants.{Large, Live}
 use Rattle.rows.specs.declared.header.Header.{Header}
-use Rattle.rows.specs.declared.pile.Part.the-variants.{Entries, Others}
+use Rattle.rows.specs.declared.pile.Part.the-variants.{Others}
 use Rattle.rows.specs.Pile.{selection}
 use Rattle.rows.specs.Header.{header-of, Small}
 use Rattle.rows.specs.Wrote.{Wrote, wrote-length, done-fits, done-length}
-use Rattle.rows.specs.Bind.{BindParts, FinishParts, pile-parts, pending-piece, pile-piece, last-piece, bound-piece}
+use Rattle.rows.specs.Bind.{FinishParts, pile-parts, pending-piece, pile-piece, last-piece, bound-piece}
 use Rattle.rows.specs.Finished.{Finished, bound-header, body-part, finish-part, finished-full, finished-sealed, finished-more}
 use Rattle.rows.proofs.Binding.{Same, same-pile, same-last, unwritten, length-last}
 

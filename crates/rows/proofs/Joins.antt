@@ -1,7 +1,7 @@
 -- A value laid out and bound, in the order of the code.
-use Prim.Native.Nat.{ℕ, suc, _+_, _-_, _<_, _≤_, _^_}
+use Prim.Native.Nat.{ℕ, _+_, _-_, _<_, _≤_, _^_}
 use mathlib.Core.Path.{_≡_, refl, sym, ap, _∙_}
-use mathlib.Core.List.{List, [], _∷_, _++_}
+use mathlib.Core.List.{List, _++_}
 use mathlib.Core.Bool.{Bool, true, false, false≢true}
 use native.Mathlib.Omega.{arith}
 use lib.ListN.{length, take, drop, getD, set, length-set}
@@ -13,7 +13,7 @@ use Rattle.rows.specs.declared.bind.Made.{Made}
 use Rattle.rows.specs.declared.bind.Made.the-variants.{Dead, Names}
 use Rattle.rows.specs.Header.{header-of}
 use Rattle.rows.specs.Flat.{holds}
-use Rattle.rows.specs.Bind.{BindParts, FinishParts, pile-piece, last-piece}
+use Rattle.rows.specs.Bind.{FinishParts, pile-piece, last-piece}
 use Rattle.rows.specs.Finished.{Finished, bound-header}
 use Rattle.rows.specs.Join.{gathered, length-gathered}
 use Rattle.rows.specs.Joining.{JoinParts, joining-word, joining-words, valued, Joined}

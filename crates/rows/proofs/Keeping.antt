@@ -1,20 +1,17 @@
 -- The rest of a row copied with an entry more, and then its header, in the order of the code.
-use Prim.Native.Nat.{ℕ, suc, _+_, _-_, _≤_, _<_}
-use mathlib.Core.Path.{_≡_, refl, sym, ap, _∙_}
-use mathlib.Core.List.{List, [], _∷_, _++_, append-assoc, append-nil}
+use Prim.Native.Nat.{ℕ, _+_, _-_, _≤_, _<_}
+use mathlib.Core.Path.{_≡_, sym, ap, _∙_}
+use mathlib.Core.List.{List, [], _++_, append-assoc, append-nil}
 use native.Mathlib.Omega.{arith}
 use lib.ListN.{length, length-append}
-use Rattle.room.specs.Room.{seg, put, Within, length-put, length-seg, put-nil, put-put}
+use Rattle.room.specs.Room.{seg, put, Within, length-put, length-seg, put-put}
 use Rattle.room.specs.Parts.{CopyParts, apart-part, seg-put}
-use Rattle.room.specs.Fitting.{told, told-of-le, told-of-lt}
-use Rattle.room.specs.declared.Copied.{Copied}
 use Rattle.room.specs.declared.Copied.the-variants.{Done, Full}
 use Rattle.rows.specs.declared.bind.Rest.{Rest}
-use Rattle.rows.specs.declared.bind.Made.{Made}
 use Rattle.rows.specs.declared.bind.Made.the-variants.{Large, Live}
 use Rattle.rows.specs.declared.header.Header.{Header}
 use Rattle.rows.specs.Header.{header-of, Small}
-use Rattle.rows.specs.Wrote.{Wrote, wrote-length, done-fits, done-length}
+use Rattle.rows.specs.Wrote.{Wrote, wrote-full, wrote-all, wrote-length, done-length}
 use Rattle.rows.specs.Bind.{BindParts, FinishParts}
 use Rattle.rows.specs.Keep.{kept-piece, kept-header}
 use Rattle.rows.specs.Finished.{Finished, body-part, finished-full, finished-sealed}
@@ -48,15 +45,7 @@ module _ {r₀ : List ℕ} {rest : Rest} {by m to capacity : ℕ} (P : BindParts
   length-kept = omega (arith, length-append front (entry ++ back), length-append entry back, length-front, length-entry, length-back)
 
   pub keep-full : capacity < rest .pending + rest .pile + m + rest .bound → Wrote r₀ to capacity (kept-piece r₀ rest by m) Full r₀
-  keep-full h =
-      let l = length-kept in
-      record {
-        out = [];
-        room = sym (put-nil r₀ to);
-        within = omega arith;
-        tells = sym (told-of-lt capacity (kept-piece r₀ rest by m) (omega arith));
-        whole = λ f. absurd (omega arith);
-      }
+  keep-full h = wrote-full r₀ to (kept-piece r₀ rest by m) (omega (arith, length-kept))
 
   module _ (h : rest .pending + rest .pile + m + rest .bound ≤ capacity) where
     pub front-parts : CopyParts r₀ (rest .at) (rest .pending + rest .pile) to
@@ -106,14 +95,7 @@ module _ {r₀ : List ℕ} {rest : Rest} {by m to capacity : ℕ} (P : BindParts
             let same : seg r₂ (rest .at + (rest .pending + rest .pile)) (rest .bound) ≡ back =
             rw laid (seg-put (front ++ entry) r₀ (apart-part (P .rest-apart) (omega arith) (omega arith) (omega arith) (omega arith))) in
             let whole : r₃ ≡ put r₀ to ((front ++ entry) ++ back) = put-after r₀ to (front ++ entry) back (rest .pending + rest .pile + m) k laid (rw (same, place) at e₃) in
-            let l = length-kept in
-            record {
-              out = kept-piece r₀ rest by m;
-              room = whole ∙ ap (put r₀ to) (append-assoc front entry back);
-              within = omega arith;
-              tells = sym (told-of-le capacity (kept-piece r₀ rest by m) (omega arith) ∙ ap Done l);
-              whole = λ g. refl;
-            }
+            wrote-all (kept-piece r₀ rest by m) length-kept h (whole ∙ ap (put r₀ to) (append-assoc front entry back))
 
 -- ---- and the header
 

@@ -1,5 +1,6 @@
 pub mod Walks
 pub mod Passing
+pub mod Absent
 pub mod Binding
 pub mod Finishing
 pub mod Keeping

@@ -1,11 +1,11 @@
 -- An entry laid out, and the arguments of two sides written in turn, in the order of the code.
-use Prim.Native.Nat.{ℕ, zero, suc, _+_, _-_, _<_, _≤_, _^_}
-use mathlib.Core.Path.{_≡_, refl, sym, ap, _∙_}
-use mathlib.Core.List.{List, [], _∷_, _++_, append-assoc, append-nil}
+use Prim.Native.Nat.{ℕ, suc, _+_, _-_, _<_, _≤_}
+use mathlib.Core.Path.{_≡_, sym, ap, _∙_}
+use mathlib.Core.List.{List, [], _++_, append-assoc, append-nil}
 use native.Mathlib.Omega.{arith}
 use native.Mathlib.Numerals.{add-one}
 use lib.ListN.{length, take, drop, set, length-append, length-set}
-use Rattle.room.specs.Room.{seg, put, Within, length-put, length-seg, put-nil, put-put, take-seg, drop-seg}
+use Rattle.room.specs.Room.{seg, put, Within, length-put, length-seg, put-nil, take-seg, drop-seg}
 use Rattle.room.specs.Parts.{Apart, CopyParts, apart-part, seg-put, seg-set}
 use Rattle.terms.specs.Bounds.{edition-one}
 use Rattle.rows.specs.declared.bind.Rest.{Rest}

@@ -1,22 +1,22 @@
 -- The loop over a pile's entries: some are read, and what was wanted of them is written.
 use Prim.Native.Nat.{ℕ, suc, _+_, _-_, _<_, _≤_}
-use mathlib.Core.Path.{_≡_, refl, sym, ap, _∙_}
+use mathlib.Core.Path.{_≡_, sym, ap, _∙_}
 use mathlib.Core.List.{List, [], _∷_, _++_, append-assoc, append-nil}
-use mathlib.Core.Bool.{Bool, true, false}
+use mathlib.Core.Bool.{true, false}
 use native.Mathlib.Omega.{arith}
 use native.Mathlib.Numerals.{add-one}
 use lib.ListN.{length, take, drop, getD}
-use Rattle.room.specs.Room.{seg, put, length-put, length-seg, seg-zero, seg-append, seg-cons, take-seg, drop-seg}
+use Rattle.room.specs.Room.{seg, put, length-put, length-seg, seg-zero, seg-cons, take-seg, drop-seg}
 use Rattle.room.specs.Parts.{ReplaceParts, apart-part, getD-put, seg-put}
 use Rattle.room.specs.Replaced.{replaced, replaced-nil, replaced-append}
-use Rattle.room.specs.Fitting.{fitting, told}
+use Rattle.room.specs.Fitting.{fitting, told, further}
 use Rattle.room.specs.declared.Copied.{Copied}
 use Rattle.room.specs.declared.Copied.the-variants.{Done, Full}
 use Rattle.terms.specs.Bounds.{edition-one}
 use Rattle.rows.specs.declared.pile.Part.{Part}
-use Rattle.rows.specs.Ended.{ended, term-end, ended-within}
+use Rattle.rows.specs.Ended.{term-end, ended-within}
 use Rattle.rows.specs.Pile.{wants, kept, selected, selection, selection-entry}
-use Rattle.rows.specs.Wrote.{Wrote, further, wrote-nothing, wrote-replaced, wrote-more, wrote-length, full-more, done-fits, done-length}
+use Rattle.rows.specs.Wrote.{Wrote, wrote-nothing, wrote-replaced, wrote-more, wrote-length, full-more, done-fits, done-length}
 
 pub record Passing (arities r₀ : List ℕ) (part : Part) (from n x by m to capacity : ℕ) (r : List ℕ) (read written : ℕ) : Type 0 where
   pub parts : ReplaceParts r₀ from n by m to capacity

@@ -1,8 +1,8 @@
 -- What the tests of the code tell of an equation's step.
-use Prim.Native.Nat.{ℕ, _+_, _≤_}
-use mathlib.Core.Path.{_≡_, refl, sym, ap, _∙_}
+use Prim.Native.Nat.{ℕ, _≤_}
+use mathlib.Core.Path.{_≡_, sym, _∙_}
 use mathlib.Core.List.{List}
-use mathlib.Core.Bool.{Bool, true, false, cond, _&&_, not}
+use mathlib.Core.Bool.{Bool, true, false}
 use native.Mathlib.Omega.{arith}
 use lib.Dec.{eqb}
 use lib.ListN.{length, take, getD}
@@ -10,8 +10,7 @@ use borrow.Author.Tests.{eq-eqb, ne-eqb}
 use Rattle.terms.specs.Bounds.{edition-one}
 use Rattle.terms.specs.Kind.{within}
 use Rattle.search.specs.declared.steps.Tails.{Tails}
-use Rattle.search.specs.declared.steps.Tails.the-variants.{Neither, Left, Right, Different, Same}
-use Rattle.search.specs.declared.steps.Step.{Step}
+use Rattle.search.specs.declared.steps.Tails.the-variants.{Different}
 use Rattle.search.specs.declared.steps.Step.the-variants.{Drop, Bind, Postpone, Decompose, Split, Dead}
 use Rattle.search.specs.Classify.{tails-by, meet-by}
 use Rattle.rows.specs.Flat.{holds}

@@ -1,28 +1,26 @@
 -- A row that holds a state, at its first equation: what the steps find there. The state is sound: its terms are formed over its unknowns, of which
 -- there are no more than a path may have.
-use Prim.Native.Nat.{ℕ, zero, suc, _+_, _-_, _*_, _<_, _≤_, _^_}
+use Prim.Native.Nat.{ℕ, _+_, _-_, _*_, _<_, _≤_, _^_}
 use mathlib.Core.Path.{_≡_, refl, ap, sym, _∙_}
 use mathlib.Core.List.{List, [], _∷_, _++_, append-nil}
 use native.Mathlib.Omega.{arith}
-use lib.ListN.{length, take, getD, length-append}
+use lib.ListN.{length, take, getD}
 use lib.Seq.{take-at, getD-append-add}
-use Rattle.room.specs.Room.{seg, Within, length-seg, seg-append, seg-seg, take-seg}
-use Rattle.room.specs.Parts.{Apart, earlier, later}
+use Rattle.room.specs.Room.{seg, Within, seg-append, seg-seg, take-seg}
+use Rattle.room.specs.Parts.{Apart, earlier}
 use Rattle.terms.specs.Bounds.{edition-one, edition-one-proper}
 use Rattle.terms.specs.Kind.{Worded}
-use Rattle.terms.specs.Lists.{All, none, both}
+use Rattle.terms.specs.Lists.{All, both}
 use Rattle.terms.specs.Term.{Term, unknown, words, size}
 use Rattle.terms.specs.Shape.{is-unknown}
 use Rattle.terms.specs.Formed.{Equation, Formed, sides, row}
-use mathlib.Core.Bool.{Bool, true, false}
+use mathlib.Core.Bool.{true, false}
 use Rattle.terms.specs.Answers.{Named}
 use Rattle.terms.specs.Flat.{size-positive, length-words}
 use Rattle.search.specs.State.{State, pend, size-equations, size-named, state-size}
 use Rattle.search.specs.Classify.{classify}
 use Rattle.search.specs.StepView.{Sided, as-written, turned-round}
 use Rattle.rows.specs.declared.bind.Rest.{Rest}
-use Rattle.rows.specs.declared.first.First.{First}
-use Rattle.rows.specs.declared.header.Header.{Header}
 use Rattle.rows.specs.Bind.{BindParts, FinishParts}
 use Rattle.rows.specs.States.{pending-words}
 use Rattle.rows.specs.Row.{Holds, Rested, header-for}
@@ -47,7 +45,7 @@ sound-worded S = record { proper = edition-one-proper; functors = omega arith; u
 pub record Rows (l : List ℕ) (from to scratch lent : ℕ) : Type 0 where
   pub row : from + 8 + lent ≤ to
   pub next-row : to + 8 + lent ≤ scratch
-  pub scratch-rows : scratch + 7 * (8 + lent) ≤ length l
+  pub scratch-rows : scratch + 4 * (8 + lent) ≤ length l
   pub lent-small : lent ≤ 8192
   pub small : length l < 2 ^ 32
 
@@ -59,7 +57,7 @@ pub record Held (arities l : List ℕ) (from to scratch lent : ℕ) (st : State)
   pub fits : state-size st ≤ lent
 
 -- a binding has two words at least
-few-bindings : (ns : List Named) → 2 * length ns ≤ size-named ns
+pub few-bindings : (ns : List Named) → 2 * length ns ≤ size-named ns
 unfolding size-named
 few-bindings [] = omega arith
 few-bindings (n ∷ ns) = omega (arith, few-bindings ns, size-positive (n .value))
@@ -117,14 +115,19 @@ pub record SubjectAt (l : List ℕ) (s : Subject) (x : ℕ) (t : Term) (from end
 
 -- ---- the first equation
 
-module _ {arities l : List ℕ} {from to scratch lent : ℕ} {st : State} (H : Held arities l from to scratch lent st) {e : Equation} {es : List Equation} (cut : st .pending ≡ e ∷ es) where
-  pub first-formed : Formed arities (st .next) (e .left) × Formed arities (st .next) (e .right)
-  unfolding sides
-  first-formed = both-formed (rw cut at (H .sound .pending))
-    where
-      both-formed : All (Formed arities (st .next)) (e .left ∷ e .right ∷ sides es) → Formed arities (st .next) (e .left) × Formed arities (st .next) (e .right)
-      both-formed (both f (both g fs)) = (f, g)
+pub first-size : (st : State) {e : Equation} {es : List Equation} → st .pending ≡ e ∷ es → size-equations (st .pending) ≡ size (e .left) + size (e .right) + size-equations es
+unfolding size-equations
+first-size st cut = ap size-equations cut
 
+pub first-formed : {arities : List ℕ} {st : State} {e : Equation} {es : List Equation} → Sound arities st → st .pending ≡ e ∷ es
+    → Formed arities (st .next) (e .left) × Formed arities (st .next) (e .right)
+unfolding sides
+first-formed {arities} {st} {e} {es} sound cut = both-formed (rw cut at (sound .pending))
+  where
+    both-formed : All (Formed arities (st .next)) (e .left ∷ e .right ∷ sides es) → Formed arities (st .next) (e .left) × Formed arities (st .next) (e .right)
+    both-formed (both f (both g fs)) = (f, g)
+
+module _ {l : List ℕ} {from : ℕ} {st : State} (holds : Holds edition-one l from st) {e : Equation} {es : List Equation} (cut : st .pending ≡ e ∷ es) where
   -- the words of its sides
   abbrev L : List ℕ
   L = words edition-one (e .left)
@@ -137,21 +140,17 @@ module _ {arities l : List ℕ} {from to scratch lent : ℕ} {st : State} (H : H
   first-words =
       let p : from + 8 + 0 ≡ from + 8 = omega arith in
       let n : size-equations (st .pending) - 0 ≡ size-equations (st .pending) = omega arith in
-      rw (p, n) at (holds-rest (H .holds) [] (st .pending) refl .pending) ∙ rw cut
-
-  pub first-size : size-equations (st .pending) ≡ size (e .left) + size (e .right) + size-equations es
-  unfolding size-equations
-  first-size = ap size-equations cut
+      rw (p, n) at (holds-rest holds [] (st .pending) refl .pending) ∙ rw cut
 
   -- each side in the room
   pub left-stands : seg l (from + 8) (size (e .left)) ≡ L
   left-stands =
-      let s = first-size in
+      let s = first-size st cut in
       sym (take-seg l (from + 8) (size-equations (st .pending)) (size (e .left)) (omega arith)) ∙ ap (take (size (e .left))) first-words ∙ take-at L _ (size (e .left)) (length-words edition-one (e .left))
 
   pub right-stands : seg l (from + 8 + size (e .left)) (size (e .right)) ≡ R
   right-stands =
-      let s = first-size in
+      let s = first-size st cut in
       sym (seg-seg l (from + 8) (size-equations (st .pending)) (size (e .left)) (size (e .right)) (omega arith))
       ∙ middle L R (pending-words edition-one es) (size (e .left)) (size (e .right)) first-words (length-words edition-one (e .left)) (length-words edition-one (e .right))
 
@@ -159,34 +158,35 @@ module _ {arities l : List ℕ} {from to scratch lent : ℕ} {st : State} (H : H
   pub sides-stand : seg l (from + 8) (size (e .left) + size (e .right)) ≡ L ++ R
   sides-stand = seg-append l (from + 8) (size (e .left)) (size (e .right)) ∙ rw (left-stands, right-stands)
 
+  pub first-found : {arities : List ℕ} → Sound arities st
+      → first-in edition-one arities (seg l (from + 8) (size-equations (st .pending))) ≡ record { step = classify (e .left) (e .right); right = size (e .left); end = size (e .left) + size (e .right) }
+  first-found sound = let f = first-formed sound cut in rw first-words (first-in-words (sound-worded sound) (f .0) (f .1) (pending-words edition-one es))
+
+module _ {arities l : List ℕ} {from to scratch lent : ℕ} {st : State} (H : Held arities l from to scratch lent st) {e : Equation} {es : List Equation} (cut : st .pending ≡ e ∷ es) where
   pub sides-within : from + 8 + (size (e .left) + size (e .right)) ≤ to
   unfolding state-size
-  sides-within = let f : size-equations (st .pending) + size-named (st .pile) + size-named (st .bindings) ≤ lent = H .fits in omega (arith, first-size, H .rows .row)
-
-  pub first-found : first-in edition-one arities (seg l (from + 8) (size-equations (st .pending)))
-      ≡ record { step = classify (e .left) (e .right); right = size (e .left); end = size (e .left) + size (e .right) }
-  first-found = let f = first-formed in rw first-words (first-in-words (sound-worded (H .sound)) (f .0) (f .1) (pending-words edition-one es))
+  sides-within = let f : size-equations (st .pending) + size-named (st .pile) + size-named (st .bindings) ≤ lent = H .fits in omega (arith, first-size st cut, H .rows .row)
 
   -- ---- an unknown and a term
 
   abbrev found : Subject
   found = subject-in edition-one (seg l (from + 8) (size (e .left) + size (e .right))) (from + 8) (size (e .left)) (size (e .left) + size (e .right))
 
-  left-word : unknown-word edition-one (getD (L ++ R) 0 0) ≡ is-unknown (e .left)
+  left-word : unknown-word edition-one (getD (words edition-one (e .left) ++ words edition-one (e .right)) 0 0) ≡ is-unknown (e .left)
   unfolding unknown-word
-  left-word = rw (head-words edition-one (e .left) R) (head-unknown (sound-worded (H .sound)) (first-formed .0))
+  left-word = rw (head-words edition-one (e .left) (words edition-one (e .right))) (head-unknown (sound-worded (H .sound)) (first-formed (H .sound) cut .0))
 
   found-left : is-unknown (e .left) ≡ true
       → found ≡ record { x = head-word edition-one (e .left); by = from + 8 + size (e .left); m = size (e .left) + size (e .right) - size (e .left) }
   unfolding subject-in subject-by
-  found-left u = rw (sides-stand, left-word, u, head-words edition-one (e .left) R)
+  found-left u = rw (sides-stand (H .holds) cut, left-word, u, head-words edition-one (e .left) (words edition-one (e .right)))
 
   found-right : is-unknown (e .left) ≡ false → found ≡ record { x = head-word edition-one (e .right); by = from + 8; m = size (e .left) }
   unfolding subject-in subject-by
   found-right u =
-      let at : getD (L ++ R) (size (e .left)) 0 ≡ head-word edition-one (e .right) =
-      ap (λ (k : ℕ). getD (L ++ R) k 0) (omega (arith, length-words edition-one (e .left))) ∙ getD-append-add L R 0 0 ∙ ap (λ (ws : List ℕ). getD ws 0 0) (sym (append-nil R)) ∙ head-words edition-one (e .right) [] in
-      rw (sides-stand, left-word, u, at)
+      let at : getD (words edition-one (e .left) ++ words edition-one (e .right)) (size (e .left)) 0 ≡ head-word edition-one (e .right) =
+      ap (λ (k : ℕ). getD (words edition-one (e .left) ++ words edition-one (e .right)) k 0) (omega (arith, length-words edition-one (e .left))) ∙ getD-append-add (words edition-one (e .left)) (words edition-one (e .right)) 0 0 ∙ ap (λ (ws : List ℕ). getD ws 0 0) (sym (append-nil (words edition-one (e .right)))) ∙ head-words edition-one (e .right) [] in
+      rw (sides-stand (H .holds) cut, left-word, u, at)
 
   left-subject : {x : ℕ} {t : Term} → e .left ≡ unknown x → e .right ≡ t → SubjectAt l found x t from (size (e .left) + size (e .right))
   unfolding head-word edition-one is-unknown
@@ -194,7 +194,7 @@ module _ {arities l : List ℕ} {from to scratch lent : ℕ} {st : State} (H : H
       let k : size (e .left) + size (e .right) - size (e .left) ≡ size (e .right) = omega arith in
       rw (found-left (ap is-unknown p), k) (record {
         word = ap (head-word edition-one) p;
-        stands = record { stands = right-stands ∙ ap (words edition-one) q };
+        stands = record { stands = right-stands (H .holds) cut ∙ ap (words edition-one) q };
         after = omega arith;
         before = omega arith;
       })
@@ -204,7 +204,7 @@ module _ {arities l : List ℕ} {from to scratch lent : ℕ} {st : State} (H : H
   right-subject {x} {t} h p q =
       rw (found-right (ap is-unknown p ∙ h)) (record {
         word = ap (head-word edition-one) q;
-        stands = record { stands = left-stands ∙ ap (words edition-one) p };
+        stands = record { stands = left-stands (H .holds) cut ∙ ap (words edition-one) p };
         after = omega arith;
         before = omega arith;
       })

@@ -1,12 +1,12 @@
 -- What a child's row has after its new equations, where x is bound to the m words at a place: the rest of the pending equations and the released
 -- entries, the other entries, each with x replaced; then the bindings, and x's number with its value. Last, where these parts of the room lie.
-use Prim.Native.Nat.{ℕ, suc, _+_, _-_, _*_, _^_, _≤_, _<_}
-use mathlib.Core.Path.{_≡_, refl, sym, ap, _∙_}
-use mathlib.Core.List.{List, [], _∷_, _++_}
+use Prim.Native.Nat.{ℕ, _+_, _-_, _^_, _≤_, _<_}
+use mathlib.Core.Path.{_≡_}
+use mathlib.Core.List.{List, _∷_, _++_}
 use native.Mathlib.Omega.{arith}
 use lib.ListN.{length}
 use Rattle.room.specs.Room.{seg, Within}
-use Rattle.room.specs.Parts.{Apart, ReplaceParts, CopyParts, apart-part}
+use Rattle.room.specs.Parts.{Apart, ReplaceParts, apart-part}
 use Rattle.room.specs.Replaced.{replaced}
 use Rattle.terms.specs.Bounds.{Bounds}
 use Rattle.rows.specs.declared.bind.Rest.{Rest}

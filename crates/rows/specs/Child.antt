@@ -1,29 +1,29 @@
 -- A child's row made of the rest of its parent's: with an unknown bound, or with nothing bound and some entries more in the pile. What the flat pieces
 -- are, said of the states.
-use Prim.Native.Nat.{ℕ, zero, suc, _+_, _-_, _<_, _≤_}
-use mathlib.Core.Path.{_≡_, refl, ap, sym, _∙_}
+use Prim.Native.Nat.{ℕ, _+_, _-_, _<_, _≤_}
+use mathlib.Core.Path.{_≡_, ap, sym, _∙_}
 use mathlib.Core.List.{List, [], _∷_, _++_, append-assoc, append-nil, map}
 use native.Mathlib.Omega.{arith}
 use lib.ListN.{length, length-append}
 use Rattle.room.specs.Room.{seg, length-seg, seg-append, seg-zero}
 use Rattle.room.specs.Replaced.{replaced, replaced-append}
-use Rattle.terms.specs.Bounds.{Bounds, edition-one, edition-one-proper}
+use Rattle.terms.specs.Bounds.{edition-one, edition-one-proper}
 use Rattle.terms.specs.Kind.{Worded}
 use Rattle.terms.specs.Lists.{All}
 use Rattle.terms.specs.Term.{Term, words}
 use Rattle.terms.specs.Formed.{Equation, Formed, row, sides}
 use Rattle.terms.specs.Answers.{Named, binding-words}
-use Rattle.search.specs.State.{State, Node, live, size-equations, size-named, state-size}
+use Rattle.search.specs.State.{State, live, size-equations, size-named, state-size}
 use Rattle.search.specs.Children.{replace-in, entries, others, released, kept, bound-state}
 use Rattle.rows.specs.declared.bind.Rest.{Rest}
 use Rattle.rows.specs.declared.bind.Made.{Made}
 use Rattle.rows.specs.declared.pile.Part.the-variants.{Entries, Others}
 use Rattle.rows.specs.Header.{header-of}
-use Rattle.rows.specs.Pile.{pile-words, pile-append, selection, chosen, selection-pile}
+use Rattle.rows.specs.Pile.{pile-words, pile-append, chosen, selection-pile}
 use Rattle.rows.specs.Bind.{FinishParts, pending-piece, pile-piece, last-piece, bound-piece}
 use Rattle.rows.specs.Keep.{kept-piece, kept-header}
 use Rattle.rows.specs.Finished.{Finished, bound-header}
-use Rattle.rows.specs.States.{pending-words, body-words, length-pending, length-pile, length-bindings, pending-append, bindings-append, replaced-pending, replaced-entries, replaced-others, bound-body}
+use Rattle.rows.specs.States.{pending-words, body-words, length-pending, length-pile, length-bindings, pending-append, bindings-append, replaced-pending, replaced-entries, replaced-others}
 use Rattle.rows.specs.Row.{Rested, Makes, header-for, finished-makes}
 
 -- the state with these equations before its own, and this next unknown

@@ -1,33 +1,32 @@
 -- An equation of one functor replaced by its argument equations: the row that is made holds the state's only child.
-use Prim.Native.Nat.{ℕ, zero, suc, _+_, _-_, _*_, _<_, _≤_, _^_}
+use Prim.Native.Nat.{ℕ, suc, _+_, _-_, _*_, _≤_}
 use mathlib.Core.Path.{_≡_, refl, ap, sym, _∙_}
 use mathlib.Core.List.{List, [], _∷_, _++_, append-nil, append-assoc}
 use native.Mathlib.Omega.{arith}
-use lib.ListN.{length, take, drop, getD, length-append}
+use lib.ListN.{length, drop, getD}
 use lib.Seq.{take-at, drop-at}
-use Rattle.room.specs.Room.{seg, put, Within, length-put, length-seg, seg-zero, seg-put-same, drop-seg}
-use Rattle.room.specs.Parts.{Apart, earlier, later, apart-part}
+use Rattle.room.specs.Room.{seg, put, length-put, length-seg, seg-zero, seg-put-same, drop-seg}
+use Rattle.room.specs.Parts.{earlier, later}
 use Rattle.terms.specs.Bounds.{Bounds, edition-one}
 use Rattle.terms.specs.Kind.{Worded}
-use Rattle.terms.specs.Term.{Term, Terms, functor, more, words, words*, size, size*, list, count}
-use Rattle.terms.specs.Term as term
+use Rattle.terms.specs.Term.{Terms, functor, words, words*, size, size*, list, count}
 use Rattle.terms.specs.Formed.{Equation, Formed, Formed*, formed-functor, formed-none, formed-more, row, sides}
 use Rattle.terms.specs.Flat.{length-words}
-use Rattle.search.specs.State.{State, Node, live, pend, size-equations, size-named, state-size}
+use Rattle.search.specs.State.{State, live, pend, size-equations, size-named, state-size}
 use Rattle.search.specs.Children.{pairwise}
 use Rattle.rows.specs.declared.bind.Rest.{Rest}
 use Rattle.rows.specs.declared.bind.Made.{Made}
 use Rattle.rows.specs.Header.{header-of}
 use Rattle.rows.specs.Bind.{FinishParts}
 use Rattle.rows.specs.Keep.{kept-piece, kept-header}
-use Rattle.rows.specs.Ended.{term-end, term-end-words}
+use Rattle.rows.specs.Ended.{term-end-words}
 use Rattle.rows.specs.Finished.{Finished, finish-long}
 use Rattle.rows.specs.Pile.{pile-words}
 use Rattle.rows.specs.States.{pending-words}
-use Rattle.rows.specs.Row.{Rested, Makes}
+use Rattle.rows.specs.Row.{Makes, Beside, beside-put, finished-beside}
 use Rattle.rows.specs.Child.{Piled, extended, keep-makes}
 use Rattle.rows.specs.Single.{PairParts, DecomposeParts, paired, decomposed, length-paired}
-use Rattle.rows.specs.At.{Sound, sound-worded, Rows, Held, first-formed, left-stands, right-stands, sides-within, first-size}
+use Rattle.rows.specs.At.{sound-worded, Held, first-formed, left-stands, right-stands, sides-within, first-size}
 use Rattle.rows.specs.Singles.{rest, single-parts, rest-stands, rest-bound, few, rested-put, makes-after}
 
 module _ {b : Bounds} {arities : List ℕ} {n : ℕ} (worded : Worded b arities n) where
@@ -54,6 +53,19 @@ module _ {b : Bounds} {arities : List ℕ} {n : ℕ} (worded : Worded b arities 
 none-piled : [] ≡ pile-words edition-one []
 unfolding pile-words
 none-piled = refl
+
+-- the argument equations lie in the child's row
+length-arguments : {l : List ℕ} {left n right m to : ℕ} (arities : List ℕ) (c : ℕ) → PairParts l left n right m to
+    → length (paired edition-one arities c (seg l left n) (seg l right m)) ≤ n + m
+length-arguments {l} {left} {n} {right} {m} arities c P =
+    omega (arith, length-paired edition-one arities c (seg l left n) (seg l right m), length-seg l left n (P .left-within), length-seg l right m (P .right-within))
+
+pub decompose-beside : (arities : List ℕ) (c : ℕ) {l : List ℕ} {rest : Rest} {left n right m to lent next aside written : ℕ} {piece header : List ℕ} {a : Made} {r : List ℕ}
+    → DecomposeParts l rest left n right m to lent next
+    → Finished (decomposed edition-one arities l c left n right m to) to written lent piece header a r → Beside l r to lent aside
+unfolding decomposed
+decompose-beside arities c {l} {left = left} {n} {right} {m} {to} P F =
+    beside-put (to + 8) (paired edition-one arities c (seg l left n) (seg l right m)) (later (omega (arith, P .fits, length-arguments arities c (P .pairs)))) (finished-beside F)
 
 module _ {arities r₀ : List ℕ} {from to scratch lent : ℕ} {st : State} (H : Held arities r₀ from to scratch lent st) {e : Equation} {es : List Equation} (cut : st .pending ≡ e ∷ es)
     {k : ℕ} {ts us : Terms} (p : e .left ≡ functor k ts) (q : e .right ≡ functor k us) where
@@ -84,29 +96,29 @@ module _ {arities r₀ : List ℕ} {from to scratch lent : ℕ} {st : State} (H 
   unfolding words
   left-arguments =
       let z = left-size in
-      sym (drop-seg r₀ (from + 8) (size (e .left)) 1 (omega arith)) ∙ ap (drop 1) (left-stands H cut ∙ ap (words edition-one) p)
+      sym (drop-seg r₀ (from + 8) (size (e .left)) 1 (omega arith)) ∙ ap (drop 1) (left-stands (H .holds) cut ∙ ap (words edition-one) p)
 
   right-arguments : seg r₀ right m ≡ words* edition-one us
   unfolding words
   right-arguments =
       let z = right-size in
-      rw m-is (sym (drop-seg r₀ (from + 8 + size (e .left)) (size (e .right)) 1 (omega arith)) ∙ ap (drop 1) (right-stands H cut ∙ ap (words edition-one) q))
+      rw m-is (sym (drop-seg r₀ (from + 8 + size (e .left)) (size (e .right)) 1 (omega arith)) ∙ ap (drop 1) (right-stands (H .holds) cut ∙ ap (words edition-one) q))
 
   left-formed : Formed* arities (st .next) ts × (count ts ≡ getD arities k 0)
-  left-formed = inside (rw p at (first-formed H cut .0))
+  left-formed = inside (rw p at (first-formed (H .sound) cut .0))
     where
       inside : Formed arities (st .next) (functor k ts) → Formed* arities (st .next) ts × (count ts ≡ getD arities k 0)
       inside (formed-functor h f g) = (g, f)
 
   right-formed : Formed* arities (st .next) us × (count us ≡ getD arities k 0)
-  right-formed = inside (rw q at (first-formed H cut .1))
+  right-formed = inside (rw q at (first-formed (H .sound) cut .1))
     where
       inside : Formed arities (st .next) (functor k us) → Formed* arities (st .next) us × (count us ≡ getD arities k 0)
       inside (formed-functor h f g) = (g, f)
 
   room : size (e .left) + size (e .right) ≤ lent
   unfolding state-size
-  room = let f : size-equations (st .pending) + size-named (st .pile) + size-named (st .bindings) ≤ lent = H .fits in omega (arith, first-size H cut)
+  room = let f : size-equations (st .pending) + size-named (st .pile) + size-named (st .bindings) ≤ lent = H .fits in omega (arith, first-size st cut)
 
   pub decompose-first-parts : DecomposeParts r₀ (rest H cut) left n right m to lent (st .next)
   decompose-first-parts =
@@ -143,9 +155,7 @@ module _ {arities r₀ : List ℕ} {from to scratch lent : ℕ} {st : State} (H 
     P = paired edition-one arities c (seg r₀ left n) (seg r₀ right m)
 
     length-P : length P ≤ n + m
-    length-P =
-        let D = decompose-first-parts .pairs in
-        omega (arith, length-paired edition-one arities c (seg r₀ left n) (seg r₀ right m), length-seg r₀ left n (D .left-within), length-seg r₀ right m (D .right-within))
+    length-P = length-arguments arities c (decompose-first-parts .pairs)
 
     pub decompose-made : {a : Made} {r : List ℕ}
         → Finished (decomposed edition-one arities r₀ c left n right m to) to (length (paired edition-one arities c (seg r₀ left n) (seg r₀ right m))) lent

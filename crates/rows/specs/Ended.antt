@@ -1,6 +1,6 @@
 -- Where terms end in words: the place after the first so many terms. The words may stop before; the place is then their end.
 use Prim.Native.Nat.{ℕ, zero, suc, _+_, _-_, _<_, _≤_}
-use mathlib.Core.Path.{_≡_, refl, ap, sym, _∙_}
+use mathlib.Core.Path.{_≡_, refl, _∙_}
 use mathlib.Core.List.{List, [], _∷_, _++_}
 use native.Mathlib.Omega.{arith}
 use native.Mathlib.Nat.{zero-add}
@@ -54,6 +54,12 @@ module _ (b : Bounds) (arities : List ℕ) where
   pub term-end-positive : (w : ℕ) (ws : List ℕ) → 0 < term-end b arities (w ∷ ws)
   unfolding ended
   term-end-positive w ws = omega (arith, ended-from ws (0 + takes b arities w) (0 + 1))
+
+  -- a first word that no term follows is the whole term
+  pub term-end-one : (ws : List ℕ) → 0 < length ws → takes b arities (getD ws 0 0) ≡ 0 → term-end b arities ws ≡ 1
+  unfolding ended
+  term-end-one [] h e = absurd (omega arith)
+  term-end-one (w ∷ ws) h e = rw e (ended-none ws 1)
 
   -- ---- as the code walks: a place, and the words from there on
 

@@ -1,23 +1,22 @@
 -- A child's row from the place where so many words of its body are written: the other words, and then its header. Where the row does not fit, the
 -- child is larger than lent, and nothing is known of its words but that they lie in the row.
-use Prim.Native.Nat.{ℕ, suc, _+_, _-_, _≤_, _<_}
+use Prim.Native.Nat.{ℕ, _+_, _-_, _≤_, _<_}
 use mathlib.Core.Path.{_≡_, refl, sym, ap, _∙_}
 use mathlib.Core.Bool.{cond}
-use mathlib.Core.List.{List, [], _∷_, _++_}
+use mathlib.Core.List.{List, [], _++_}
 use native.Mathlib.Omega.{arith}
 use lib.Dec.{leb}
 use lib.ListN.{length, length-append}
 use borrow.Author.Tests.{le-leb, lt-leb}
 use Rattle.room.specs.Room.{put, length-put, put-nil, put-put}
 use Rattle.room.specs.Fitting.{told-full}
-use Rattle.room.specs.declared.Copied.{Copied}
 use Rattle.room.specs.declared.Copied.the-variants.{Done, Full}
 use Rattle.rows.specs.declared.bind.Rest.{Rest}
 use Rattle.rows.specs.declared.bind.Made.{Made}
-use Rattle.rows.specs.declared.bind.Made.the-variants.{Dead, Names, Large, Live}
+use Rattle.rows.specs.declared.bind.Made.the-variants.{Large, Live}
 use Rattle.rows.specs.declared.header.Header.{Header}
 use Rattle.rows.specs.Header.{header-of}
-use Rattle.rows.specs.Wrote.{Wrote, wrote-length, done-fits, done-length, done-room}
+use Rattle.rows.specs.Wrote.{Wrote, done-fits, done-length, done-room}
 use Rattle.rows.specs.Bind.{BindParts, FinishParts, bind-part}
 
 -- what becomes of a live node of a size

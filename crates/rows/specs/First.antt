@@ -1,18 +1,18 @@
 -- The first pending equation in words, the numbers of a header in words, and what is left of a row after its first equation; then what they are
 -- where the row holds a state.
-use Prim.Native.Nat.{ℕ, zero, suc, _+_, _-_, _<_, _≤_, _^_}
+use Prim.Native.Nat.{ℕ, _+_, _-_, _<_, _≤_, _^_}
 use mathlib.Core.Path.{_≡_, refl, ap, sym, _∙_}
-use mathlib.Core.List.{List, [], _∷_, _++_, append-assoc, append-nil}
-use mathlib.Core.Bool.{Bool, true, false, cond}
+use mathlib.Core.List.{List, [], _++_, append-assoc, append-nil}
+use mathlib.Core.Bool.{Bool, true, false}
 use native.Mathlib.Omega.{arith}
 use lib.ListN.{length, take, drop, getD, length-append}
 use lib.Seq.{take-at, drop-at}
-use Rattle.room.specs.Room.{seg, length-seg, seg-append, seg-left, seg-right, seg-seg}
+use Rattle.room.specs.Room.{seg, seg-seg}
 use Rattle.terms.specs.Bounds.{Bounds}
 use Rattle.terms.specs.Kind.{Worded}
 use Rattle.terms.specs.Term.{Term, words, size}
-use Rattle.terms.specs.Formed.{Equation, Formed, row, sides}
-use Rattle.terms.specs.Answers.{Named, binding-words}
+use Rattle.terms.specs.Formed.{Equation, Formed}
+use Rattle.terms.specs.Answers.{binding-words}
 use Rattle.terms.specs.Flat.{length-words}
 use Rattle.search.specs.State.{State, pend, size-equations, size-named, state-size}
 use Rattle.search.specs.Classify.{classify}

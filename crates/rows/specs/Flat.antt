@@ -1,17 +1,16 @@
 -- What is asked of terms, asked of their words: an unknown's word occurs where the unknown does, and to put a term for an unknown is to
 -- replace the unknown's word by the term's words.
-use Prim.Native.Nat.{ℕ, suc, _+_, _<_, _≤_}
-use mathlib.Core.Path.{_≡_, refl, ap, sym, _∙_}
-use mathlib.Core.List.{List, [], _∷_, _++_, append-nil, append-assoc, map}
-use mathlib.Core.Bool.{Bool, true, false, cond, _||_}
+use Prim.Native.Nat.{ℕ, _+_, _<_}
+use mathlib.Core.Path.{_≡_, refl, ap, _∙_}
+use mathlib.Core.List.{List, [], _∷_, _++_, append-nil}
+use mathlib.Core.Bool.{Bool, true, false, _||_}
 use native.Mathlib.Omega.{arith}
 use lib.Dec.{eqb}
 use borrow.Author.Tests.{eqb-true, eqb-false, ne-eqb, eq-eqb}
-use Rattle.room.specs.Replaced.{image, replaced, replaced-append, replaced-cons, replaced-nil, image-same, image-other, by-test}
+use Rattle.room.specs.Replaced.{replaced, count, replaced-none, replaced-append, replaced-cons, replaced-nil, image-same, image-other, by-test}
 use Rattle.terms.specs.Bounds.{Bounds, Proper}
-use Rattle.terms.specs.Lists.{any}
+use Rattle.terms.specs.Lists.{any, or-neither}
 use Rattle.terms.specs.Term.{Term, Terms, unknown, empty, with, functor, none, more, words, words*, subst, subst*, occurs, occurs*}
-use Rattle.terms.specs.Formed.{Equation, sides, row}
 
 -- is x one of the words?
 unfoldable pub holds : ℕ → List ℕ → Bool
@@ -21,6 +20,15 @@ pub holds-append : (x : ℕ) (vs ws : List ℕ) → holds x (vs ++ ws) ≡ (hold
 unfolding holds any
 holds-append x [] ws = refl
 holds-append x (v ∷ vs) ws = by-test (eqb v x) (λ t. rw t) (λ f. rw f (holds-append x vs ws))
+
+-- where it is not, there is nothing to replace
+count-absent : (x : ℕ) (ws : List ℕ) → holds x ws ≡ false → count x ws ≡ 0
+unfolding holds any count
+count-absent x [] h = refl
+count-absent x (w ∷ ws) h = let n = or-neither (eqb w x) (holds x ws) h in rw (n .0) (count-absent x ws (n .1))
+
+pub replaced-absent : (x : ℕ) (vs ws : List ℕ) → holds x ws ≡ false → replaced x vs ws ≡ ws
+replaced-absent x vs ws h = replaced-none x vs ws (count-absent x ws h)
 
 or-false : (c : Bool) → (c || false) ≡ c
 or-false true = refl

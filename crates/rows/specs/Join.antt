@@ -1,19 +1,19 @@
 -- The members of all entries of an unknown in the words of a pile: of each entry's term, the words before its kernel.
-use Prim.Native.Nat.{ℕ, zero, suc, _+_, _-_, _<_, _≤_, _^_}
+use Prim.Native.Nat.{ℕ, zero, suc, _+_, _-_, _<_, _≤_}
 use mathlib.Core.Path.{_≡_, refl, ap, sym, _∙_}
-use mathlib.Core.List.{List, [], _∷_, _++_, append-assoc, flatMap}
-use mathlib.Core.Bool.{Bool, true, false, cond}
+use mathlib.Core.List.{List, [], _∷_, _++_, flatMap}
+use mathlib.Core.Bool.{Bool, true, false}
 use native.Mathlib.Omega.{arith}
 use native.Mathlib.Nat.{zero-add}
 use lib.Dec.{eqb}
 use lib.ListN.{length, take, drop, length-append, length-take, length-drop}
-use lib.Seq.{take-at, drop-at, take-append-le}
+use lib.Seq.{drop-at, take-append-le}
 use borrow.Author.Tests.{eqb-true, eqb-false, ne-eqb, eq-eqb}
 use Rattle.room.specs.Replaced.{by-test}
 use Rattle.terms.specs.Bounds.{Bounds, Proper}
 use Rattle.terms.specs.Kind.{takes, takes-member, Worded}
 use Rattle.terms.specs.Lists.{All, none, both}
-use Rattle.terms.specs.Term.{Term, words, size, members, kernel}
+use Rattle.terms.specs.Term.{words, size, members, kernel}
 use Rattle.terms.specs.Formed.{Formed}
 use Rattle.terms.specs.Answers.{Named}
 use Rattle.terms.specs.Flat.{length-words}

@@ -1,40 +1,39 @@
 -- Nothing is pending: the row that a joined pile makes holds the state's only child.
-use Prim.Native.Nat.{ℕ, zero, suc, _+_, _-_, _*_, _<_, _≤_, _^_}
+use Prim.Native.Nat.{ℕ, suc, _+_, _-_, _<_, _≤_}
 use mathlib.Core.Path.{_≡_, refl, ap, sym, _∙_}
-use mathlib.Core.List.{List, [], _∷_, _++_, append-nil, append-assoc, map}
-use mathlib.Core.Bool.{Bool, true, false, cond, _||_}
+use mathlib.Core.List.{List, [], _∷_, _++_}
+use mathlib.Core.Bool.{Bool, true, false, _||_}
 use native.Mathlib.Omega.{arith}
 use native.Mathlib.Numerals.{add-one}
 use native.Mathlib.Decide.{decLe}
-use lib.Dec.{eqb, ltb}
-use lib.ListN.{length, take, drop, getD, length-append}
-use borrow.Author.Tests.{eqb-true, eqb-false, ne-eqb, eq-eqb, lt-ltb}
-use Rattle.room.specs.Room.{seg, put, Within, length-put, length-seg, seg-put-same, getD-seg}
-use Rattle.room.specs.Parts.{Apart, earlier, later, apart-part, seg-put}
+use lib.Dec.{eqb}
+use lib.ListN.{length, getD, length-append}
+use borrow.Author.Tests.{ne-eqb, lt-ltb}
+use Rattle.room.specs.Room.{seg, put, length-put, seg-put-same, getD-seg}
+use Rattle.room.specs.Parts.{earlier, later, seg-put}
 use Rattle.room.specs.Replaced.{by-test}
 use Rattle.terms.specs.Bounds.{edition-one, edition-one-proper}
-use Rattle.terms.specs.Lists.{All, none, both, any}
-use Rattle.terms.specs.Term.{Term, unknown, words, size, members, occurs, over}
-use Rattle.terms.specs.Formed.{Equation, Formed}
+use Rattle.terms.specs.Lists.{All, both, any}
+use Rattle.terms.specs.Term.{Term, unknown, words, size, occurs, over}
 use Rattle.terms.specs.Answers.{Named}
 use Rattle.search.specs.State.{State, Node, live, dead, pend, renewed, size-equations, size-named, state-size}
-use Rattle.search.specs.Children.{entries, others, released, kept, bound-state, bound, joined, join, replace-in}
+use Rattle.search.specs.Children.{entries, others, bound-state, bound, joined}
 use Rattle.rows.specs.declared.bind.Rest.{Rest}
 use Rattle.rows.specs.declared.bind.Made.{Made}
-use Rattle.rows.specs.declared.bind.Made.the-variants.{Dead, Names, Large, Live}
-use Rattle.rows.specs.Bind.{BindParts, FinishParts}
+use Rattle.rows.specs.declared.bind.Made.the-variants.{Dead, Names, Live}
+use Rattle.rows.specs.Bind.{FinishParts}
 use Rattle.rows.specs.Flat.{holds}
-use Rattle.rows.specs.Finished.{Finished, finish-long}
+use Rattle.rows.specs.Finished.{finish-long}
 use Rattle.rows.specs.Pile.{pile-words}
 use Rattle.rows.specs.Members.{member-words, words-over, holds-members}
 use Rattle.rows.specs.States.{length-pile}
-use Rattle.rows.specs.Join.{gathered, gathered-pile, length-gathered}
+use Rattle.rows.specs.Join.{gathered-pile, length-gathered}
 use Rattle.rows.specs.Joining.{JoinParts, joining-word, joining-words, valued, Joined}
-use Rattle.rows.specs.Row.{Rested, Makes, header-for, becomes}
+use Rattle.rows.specs.Row.{Rested, Makes, Beside, beside-same, beside-aside, finished-beside, header-for, becomes}
 use Rattle.rows.specs.Child.{Stands, finish-pile-makes}
 use Rattle.rows.specs.First.{rest-after}
 use Rattle.rows.specs.Singles.{rested-put, makes-after}
-use Rattle.rows.specs.At.{Sound, sound-worded, Rows, Held, rested, bind-parts, finish-parts, rest-room}
+use Rattle.rows.specs.At.{sound-worded, Held, rested, finish-parts, rest-room}
 
 -- ---- the entries of x among the others: none
 
@@ -220,3 +219,20 @@ module _ {arities r₀ : List ℕ} {from to scratch lent : ℕ} {st : State} (H 
       by-order : Dec (512 ≤ st .next) → any (occurs x) ms ≡ false → Makes edition-one r₀ to lent (live (bound-state x t before)) a r
       by-order (yes h) e = join-names h J e
       by-order (no h) e = join-live (omega arith) J e
+
+  pub join-beside : {a : Made} {r : List ℕ} → Joined arities r₀ rest scratch to lent (st .next) a r → Beside r₀ r to lent scratch
+  unfolding valued
+  join-beside {a} {r} J =
+      by-test (holds (joining-word r₀ rest) G)
+      (λ e. unwritten (J .dead e .1))
+      (λ e. by-order (decLe 512 (st .next)) e)
+    where
+      row-before : to + (lent + 8) ≤ scratch
+      row-before = omega (arith, H .rows .next-row)
+
+      unwritten : r ≡ put r₀ scratch G → Beside r₀ r to lent scratch
+      unwritten q = beside-aside G row-before (rw q beside-same)
+
+      by-order : Dec (512 ≤ st .next) → holds (joining-word r₀ rest) G ≡ false → Beside r₀ r to lent scratch
+      by-order (yes h) e = unwritten (J .names e h .1)
+      by-order (no h) e = beside-aside (G ++ ((1000 + st .next) ∷ [])) row-before (finished-beside (J .live e (omega arith)))

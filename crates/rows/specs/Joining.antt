@@ -1,8 +1,8 @@
 -- The pile's first unknown bound to its entries' members over a new unknown: where the parts lie, and what the row then is.
-use Prim.Native.Nat.{ℕ, zero, suc, _+_, _-_, _<_, _≤_, _^_}
+use Prim.Native.Nat.{ℕ, _+_, _-_, _<_, _≤_}
 use mathlib.Core.Path.{_≡_}
 use mathlib.Core.List.{List, [], _∷_, _++_}
-use mathlib.Core.Bool.{Bool, true, false}
+use mathlib.Core.Bool.{true, false}
 use lib.ListN.{length, getD}
 use Rattle.room.specs.Room.{seg, put}
 use Rattle.room.specs.Parts.{Apart}

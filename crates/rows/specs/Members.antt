@@ -1,18 +1,17 @@
 -- A set in words: each member after its mark, then the kernel. So the kernel's place is after the members' words, and what is asked of members and
 -- kernel is asked of these two parts.
-use Prim.Native.Nat.{ℕ, zero, suc, _+_, _-_, _<_, _≤_}
+use Prim.Native.Nat.{ℕ, _+_, _-_, _<_}
 use mathlib.Core.Path.{_≡_, refl, ap, sym, _∙_}
 use mathlib.Core.List.{List, [], _∷_, _++_, append-assoc, append-nil}
-use mathlib.Core.Bool.{Bool, true, false, cond, _||_, _&&_, not}
+use mathlib.Core.Bool.{_&&_}
 use native.Mathlib.Omega.{arith}
 use lib.Dec.{eqb}
-use lib.ListN.{length, take, drop, getD, length-append}
-use lib.Seq.{take-at, drop-at, getD-append-add, getD-at}
-use borrow.Author.Tests.{ne-eqb}
+use lib.ListN.{length, take, getD, length-append}
+use lib.Seq.{take-at, getD-append-add}
 use Rattle.terms.specs.Bounds.{Bounds, Proper}
 use Rattle.terms.specs.Kind.{within, within-first, within-before, within-after, Worded}
 use Rattle.terms.specs.Lists.{any}
-use Rattle.terms.specs.Term.{Term, unknown, empty, with, functor, words, words*, size, members, kernel, over, occurs}
+use Rattle.terms.specs.Term.{Term, unknown, empty, with, functor, words, members, kernel, over, occurs}
 use Rattle.terms.specs.Shape.{is-unknown, number}
 use Rattle.terms.specs.Formed.{Formed, formed-unknown, formed-empty, formed-with, formed-functor}
 use Rattle.terms.specs.Flat.{length-words}

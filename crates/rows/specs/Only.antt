@@ -1,15 +1,15 @@
 -- The step that the first equation calls for, where it leaves no choice: what is asked of each function that takes one, and that the child's row then
 -- holds the only child.
-use Prim.Native.Nat.{ℕ, zero, suc, _+_, _-_, _*_, _<_, _≤_, _^_}
+use Prim.Native.Nat.{ℕ, _+_, _-_, _<_}
 use mathlib.Core.Path.{_≡_, refl, ap, sym, _∙_}
 use mathlib.Core.List.{List, [], _∷_, _++_}
-use mathlib.Core.Bool.{Bool, true, false, cond}
+use mathlib.Core.Bool.{false}
 use native.Mathlib.Omega.{arith}
 use lib.ListN.{length, getD}
-use Rattle.room.specs.Room.{seg, put, getD-seg}
+use Rattle.room.specs.Room.{seg, getD-seg}
 use Rattle.terms.specs.Bounds.{edition-one, edition-one-proper}
 use Rattle.terms.specs.Kind.{takes, takes-functor}
-use Rattle.terms.specs.Term.{Term, Terms, unknown, functor, words, size, occurs, list}
+use Rattle.terms.specs.Term.{Term, Terms, functor, words, size, occurs, list}
 use Rattle.terms.specs.Formed.{Equation, Formed, formed-unknown}
 use Rattle.terms.specs.Shape.{arguments}
 use Rattle.terms.specs.Flat.{size-positive}
@@ -17,7 +17,7 @@ use Rattle.search.specs.State.{State, Node, live, dead, pend, piled}
 use Rattle.search.specs.Classify.{classify}
 use Rattle.search.specs.Children.{bound, bound-state, pairwise}
 use Rattle.search.specs.Children as children
-use Rattle.search.specs.StepView.{Sided, as-written, turned-round, Stepped, stepped, drops-unknown, drops-empty, binds, postpones, decomposes, splits, dead-buried, dead-functors, dead-clash, take-bind, take-postpone}
+use Rattle.search.specs.StepView.{Sided, as-written, turned-round, Stepped, stepped, binds, postpones, decomposes, take-bind, take-postpone}
 use Rattle.search.specs.declared.steps.Tails.{Tails}
 use Rattle.search.specs.declared.steps.Step.{Step}
 use Rattle.search.specs.declared.steps.Step.the-variants.{Drop, Bind, Postpone, Decompose, Split, Dead}
@@ -29,7 +29,7 @@ use Rattle.rows.specs.Header.{header-of}
 use Rattle.rows.specs.Bind.{FinishParts, pending-piece, pile-piece, bound-piece}
 use Rattle.rows.specs.Keep.{kept-piece, kept-header}
 use Rattle.rows.specs.Finished.{Finished, bound-header}
-use Rattle.rows.specs.Row.{Makes, header-for, becomes}
+use Rattle.rows.specs.Row.{Makes, Beside, header-for, becomes}
 use Rattle.rows.specs.First.{rest-after, subject-in}
 use Rattle.rows.specs.Single.{postponed, PostponeParts, DecomposeParts, paired, decomposed}
 use Rattle.rows.specs.At.{Held, SubjectAt, first-formed, subject-found, left-stands}
@@ -58,6 +58,7 @@ pub record StepAt (arities l : List ℕ) (from to scratch lent right end next : 
 pub record Taken (arities l : List ℕ) (from to scratch lent right end next : ℕ) (rest : Rest) (s : Subject) (step : Step) (a : Made) (r : List ℕ) : Type 0 where
   pub taken : (st : State) (e : Equation) (es : List Equation) (node : Node) → StepFor arities l from to scratch lent right end next rest s step st e es
       → children.take step (e .left) (e .right) (pend es st) ≡ node ∷ [] → ((k : Tails) → step ≡ Split k → ⊥) → Makes edition-one l to lent node a r
+  pub beside : (st : State) (e : Equation) (es : List Equation) → StepFor arities l from to scratch lent right end next rest s step st e es → Beside l r to lent scratch
 
 only : {n m : Node} → _≡_ {A = List Node} (n ∷ []) (m ∷ []) → n ≡ m
 only e = cc
@@ -106,7 +107,7 @@ module _ {arities l : List ℕ} {from to scratch lent right end next : ℕ} {res
 
   -- the unknown is one of the state's
   small : {x : ℕ} {t : Term} → Sided x t (e .left) (e .right) → x < 1000
-  small {x} {t} d = let f = first-formed H (S .cut) in by-side d (f .0) (f .1)
+  small {x} {t} d = let f = first-formed (H .sound) (S .cut) in by-side d (f .0) (f .1)
     where
       by-side : {a c : Term} → Sided x t a c → Formed arities (st .next) a → Formed arities (st .next) c → x < 1000
       by-side as-written (formed-unknown h) g = omega (arith, S .held .sound .few)
@@ -168,7 +169,7 @@ module _ {arities l : List ℕ} {from to scratch lent right end next : ℕ} {res
       let p : from + 8 + 0 ≡ from + 8 = omega arith in
       let w : getD l (from + 8) 0 ≡ 2000 + v .k =
       ap (λ (j : ℕ). getD l j 0) (sym p) ∙ sym (getD-seg l (from + 8) (size (e .left)) 0 (size-positive (e .left)))
-      ∙ ap (λ (ws : List ℕ). getD ws 0 0) (left-stands H (S .cut) ∙ ap (words edition-one) (v .left)) in
+      ∙ ap (λ (ws : List ℕ). getD ws 0 0) (left-stands (H .holds) (S .cut) ∙ ap (words edition-one) (v .left)) in
       f ∙ rw w (takes-functor edition-one-proper arities (v .k))
 
   pub decompose-arm : {c : ℕ} {a : Made} {r : List ℕ} {node : Node} → step ≡ Decompose → c ≡ takes edition-one arities (getD l (from + 8) 0)

@@ -1,28 +1,28 @@
 -- The entries of a pile in words: each is an unknown's word and then a term's words. Some of them are selected by their unknown: those of x, or the
 -- others. Then the same said of the pile's trees.
-use Prim.Native.Nat.{ℕ, zero, suc, _+_, _<_, _≤_}
+use Prim.Native.Nat.{ℕ, zero, suc, _+_}
 use mathlib.Core.Path.{_≡_, refl, ap, sym, _∙_}
 use mathlib.Core.List.{List, [], _∷_, _++_, append-assoc}
-use mathlib.Core.Bool.{Bool, true, false, cond, not}
+use mathlib.Core.Bool.{Bool, true, false, not}
 use native.Mathlib.Omega.{arith}
-use native.Mathlib.Nat.{zero-add}
 use native.Mathlib.Numerals.{add-one}
 use lib.Dec.{eqb}
 use borrow.Author.Tests.{eqb-true, eqb-false, ne-eqb, eq-eqb}
 use lib.ListN.{length, take, drop}
 use lib.Seq.{take-at, drop-at}
 use Rattle.room.specs.Replaced.{by-test}
-use Rattle.terms.specs.Bounds.{Bounds, Proper}
+use Rattle.terms.specs.Bounds.{Bounds}
 use Rattle.terms.specs.Kind.{takes, Worded}
-use Rattle.terms.specs.Term.{Term, words, size}
+use Rattle.terms.specs.Term.{words, size}
 use Rattle.terms.specs.Formed.{Formed}
 use Rattle.terms.specs.Answers.{Named}
-use Rattle.terms.specs.Lists.{All, none, both}
+use Rattle.terms.specs.Lists.{All, none, both, any, or-neither}
 use Rattle.terms.specs.Flat.{length-words}
 use Rattle.search.specs.Children.{entries, others}
 use Rattle.rows.specs.declared.pile.Part.{Part}
 use Rattle.rows.specs.declared.pile.Part.the-variants.{Entries, Others}
-use Rattle.rows.specs.Ended.{ended, ended-none, ended-shift, term-end, term-end-words}
+use Rattle.rows.specs.Flat.{holds}
+use Rattle.rows.specs.Ended.{ended, ended-shift, term-end, term-end-words}
 
 -- is the entry of an unknown wanted?
 unfoldable pub wants : Part → ℕ → ℕ → Bool
@@ -77,6 +77,37 @@ module _ (b : Bounds) (arities : List ℕ) (part : Part) (x : ℕ) where
   unfolding selected
   selection-entry w ws =
       ap (also (wants part w x) w) (selected-rest ws 1 (wants part w x)) ∙ also-kept (wants part w x) w _ _
+
+  pub selection-nil : selection b arities part x [] ≡ []
+  unfolding selected
+  selection-nil = refl
+
+  also-all : (keep : Bool) (w : ℕ) (ws : List ℕ) → also keep w (kept keep ws) ≡ kept keep (w ∷ ws)
+  unfolding also kept
+  also-all true w ws = refl
+  also-all false w ws = refl
+
+  -- x is none of the words, so that one answer serves all entries
+  selected-alike : (keep : Bool) → ((w : ℕ) → eqb w x ≡ false → wants part w x ≡ keep) → (ws : List ℕ) (due : ℕ) → holds x ws ≡ false
+      → selected b arities part x due keep ws ≡ kept keep ws
+  unfolding selected holds any kept
+  selected-alike true f [] due h = refl
+  selected-alike false f [] due h = refl
+  selected-alike keep f (w ∷ ws) zero h =
+      let n = or-neither (eqb w x) (holds x ws) h in
+      rw (f w (n .0), selected-alike keep f ws 1 (n .1)) (also-all keep w ws)
+  selected-alike keep f (w ∷ ws) (suc due) h =
+      let n = or-neither (eqb w x) (holds x ws) h in
+      rw (selected-alike keep f ws (due + takes b arities w) (n .1)) (also-all keep w ws)
+
+-- no entry is x's, and all are others
+pub entries-absent : (b : Bounds) (arities : List ℕ) (x : ℕ) (ws : List ℕ) → holds x ws ≡ false → selection b arities Entries x ws ≡ []
+unfolding wants kept
+entries-absent b arities x ws h = selected-alike b arities Entries x false (λ w e. e) ws 0 h
+
+pub others-absent : (b : Bounds) (arities : List ℕ) (x : ℕ) (ws : List ℕ) → holds x ws ≡ false → selection b arities Others x ws ≡ ws
+unfolding wants kept
+others-absent b arities x ws h = sym (selected-start b arities Others x true ws) ∙ selected-alike b arities Others x true (λ w e. rw e) ws 0 h
 
 -- ---- the pile's trees
 

@@ -1,20 +1,18 @@
 -- A row of the room that holds a state: a header of eight words, then the state's words. What is left of it after its first equation, and what a
 -- function that makes a child says: the child's row holds the child, and the rows before it are as they were.
-use Prim.Native.Nat.{ℕ, zero, suc, _+_, _-_, _<_, _≤_}
+use Prim.Native.Nat.{ℕ, _+_, _-_, _≤_}
 use mathlib.Core.Path.{_≡_, refl, ap, sym, _∙_}
-use mathlib.Core.List.{List, [], _∷_, _++_, append-assoc, append-nil}
-use mathlib.Core.Bool.{Bool, true, false, cond}
+use mathlib.Core.List.{List, [], _∷_, _++_}
+use mathlib.Core.Bool.{cond}
 use native.Mathlib.Omega.{arith}
-use lib.Dec.{eqb, ltb, leb}
+use lib.Dec.{ltb, leb}
 use lib.ListN.{length, take, drop, length-append}
-use borrow.Author.Tests.{le-ltb, leb-true, le-leb, lt-leb}
+use borrow.Author.Tests.{le-ltb, leb-true}
 use Rattle.room.specs.Room.{seg, put, Within, length-put, length-seg, seg-append, seg-put-same, take-seg, drop-seg}
 use Rattle.room.specs.Parts.{Apart, earlier, later, seg-put}
 use Rattle.room.specs.Replaced.{by-test}
 use Rattle.terms.specs.Bounds.{Bounds}
-use Rattle.terms.specs.Term.{Term, words}
-use Rattle.terms.specs.Formed.{Equation}
-use Rattle.terms.specs.Answers.{Named, binding-words}
+use Rattle.terms.specs.Answers.{binding-words}
 use Rattle.search.specs.State.{State, Node, dead, live, size-equations, size-named, state-size}
 use Rattle.rows.specs.declared.bind.Rest.{Rest}
 use Rattle.rows.specs.declared.bind.Made.{Made}
@@ -23,7 +21,7 @@ use Rattle.rows.specs.declared.header.Header.{Header}
 use Rattle.rows.specs.Header.{header-of}
 use Rattle.rows.specs.Pile.{pile-words}
 use Rattle.rows.specs.States.{pending-words, body-words, length-body}
-use Rattle.rows.specs.Finished.{Finished, made, made-live, made-large, finished-length}
+use Rattle.rows.specs.Finished.{Finished, made, finished-length}
 
 -- the numbers of a state's header
 unfoldable pub header-for : State → Header
@@ -69,6 +67,29 @@ pub record Makes (b : Bounds) (r₀ : List ℕ) (to lent : ℕ) (node : Node) (a
   pub below : seg r 0 to ≡ seg r₀ 0 to
   pub tells : a ≡ becomes b lent node
   pub holds : (st : State) → node ≡ live st → a ≡ Live → Fresh b r to st
+
+-- what stands after the child's row and before a place aside is as it was
+pub record Beside (r₀ r : List ℕ) (to lent aside : ℕ) : Type 0 where
+  pub kept : seg r (to + (lent + 8)) (aside - (to + (lent + 8))) ≡ seg r₀ (to + (lent + 8)) (aside - (to + (lent + 8)))
+
+pub beside-same : {l : List ℕ} {to lent aside : ℕ} → Beside l l to lent aside
+beside-same = record { kept = refl }
+
+-- what was put apart from it does not count
+pub beside-put : {l r : List ℕ} {to lent aside : ℕ} (i : ℕ) (vs : List ℕ) → Apart (to + (lent + 8)) (aside - (to + (lent + 8))) i (length vs)
+    → Beside (put l i vs) r to lent aside → Beside l r to lent aside
+beside-put {l} i vs a B = record { kept = B .kept ∙ seg-put vs l a }
+
+-- what was put at the place aside does not count
+pub beside-aside : {l r : List ℕ} {to lent aside : ℕ} (vs : List ℕ) → to + (lent + 8) ≤ aside → Beside (put l aside vs) r to lent aside → Beside l r to lent aside
+beside-aside {aside = aside} vs h B = beside-put aside vs (earlier (omega arith)) B
+
+-- a child's row is written in its own words alone
+pub finished-beside : {r₀ : List ℕ} {to written lent : ℕ} {piece header : List ℕ} {a : Made} {r : List ℕ} {aside : ℕ}
+    → Finished r₀ to written lent piece header a r → Beside r₀ r to lent aside
+finished-beside {to = to} {written = written} F =
+    beside-put (to + 8 + written) (F .out) (later (omega (arith, F .within)))
+    (beside-put to (F .top) (later (omega (arith, F .top-within))) (rw (F .room) beside-same))
 
 live-made : (lent size : ℕ) → made lent size ≡ Live → size ≤ lent
 unfolding made

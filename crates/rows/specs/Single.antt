@@ -1,8 +1,8 @@
 -- An equation postponed: its entry is laid out first. An equation of one functor replaced by its argument equations: the arguments of the two sides in
 -- turn. Where the parts of these steps lie.
 use Prim.Native.Nat.{ℕ, zero, suc, _+_, _-_, _<_, _≤_, _^_}
-use mathlib.Core.Path.{_≡_, refl, ap, sym, _∙_}
-use mathlib.Core.List.{List, [], _∷_, _++_, append-assoc}
+use mathlib.Core.Path.{ap}
+use mathlib.Core.List.{List, [], _∷_, _++_}
 use native.Mathlib.Omega.{arith}
 use lib.ListN.{length, take, drop, length-append, take-append-drop}
 use Rattle.room.specs.Room.{seg, put, Within}

@@ -1,35 +1,31 @@
 -- The steps that leave no choice: the row that each makes holds the state's only child.
-use Prim.Native.Nat.{ℕ, zero, suc, _+_, _-_, _*_, _<_, _≤_, _^_}
+use Prim.Native.Nat.{ℕ, _+_, _-_, _<_, _≤_}
 use mathlib.Core.Path.{_≡_, refl, ap, sym, _∙_}
-use mathlib.Core.List.{List, [], _∷_, _++_, append-nil, append-assoc}
-use mathlib.Core.Bool.{Bool, true, false, cond}
+use mathlib.Core.List.{List, [], _∷_, append-nil}
 use native.Mathlib.Omega.{arith}
-use lib.ListN.{length, length-append}
+use lib.ListN.{length}
 use Rattle.room.specs.Room.{seg, put, Within, length-put, length-seg, seg-zero, seg-put-same}
 use Rattle.room.specs.Parts.{Apart, earlier, later, apart-part, seg-put}
 use Rattle.room.specs.Replaced.{replaced, replaced-nil}
 use Rattle.terms.specs.Bounds.{edition-one}
-use Rattle.terms.specs.Lists.{All}
-use Rattle.terms.specs.Term.{Term, words, size, occurs}
-use Rattle.terms.specs.Formed.{Equation, Formed, row, sides}
-use Rattle.terms.specs.Answers.{Named}
-use Rattle.search.specs.State.{State, Node, live, dead, pend, piled, size-equations, size-named, state-size}
+use Rattle.terms.specs.Term.{Term, words, size}
+use Rattle.terms.specs.Formed.{Equation, row, sides}
+use Rattle.search.specs.State.{State, Node, live, pend, piled, size-equations, size-named, state-size}
 use Rattle.search.specs.Children.{bound-state}
-use Rattle.search.specs.StepView.{Sided}
 use Rattle.rows.specs.declared.bind.Rest.{Rest}
 use Rattle.rows.specs.declared.bind.Made.{Made}
 use Rattle.rows.specs.declared.first.Subject.{Subject}
 use Rattle.rows.specs.Header.{header-of}
-use Rattle.rows.specs.Bind.{BindParts, FinishParts, pending-piece, pile-piece, bound-piece}
+use Rattle.rows.specs.Bind.{FinishParts, pending-piece, pile-piece, bound-piece}
 use Rattle.rows.specs.Keep.{kept-piece, kept-header}
 use Rattle.rows.specs.Pile.{pile-words}
 use Rattle.rows.specs.Finished.{Finished, bound-header, finish-long}
 use Rattle.rows.specs.States.{pending-words}
-use Rattle.rows.specs.Row.{Rested, Makes, header-for}
-use Rattle.rows.specs.Child.{Stands, Piled, ahead, extended, finish-makes, keep-makes}
+use Rattle.rows.specs.Row.{Rested, Makes, Beside, beside-aside, finished-beside, header-for}
+use Rattle.rows.specs.Child.{Piled, ahead, extended, finish-makes, keep-makes}
 use Rattle.rows.specs.First.{rest-after}
 use Rattle.rows.specs.Single.{postponed, PostponeParts}
-use Rattle.rows.specs.At.{Sound, sound-worded, Rows, Held, rested, finish-parts, SubjectAt, sides-within, first-size, rest-room}
+use Rattle.rows.specs.At.{sound-worded, Held, rested, finish-parts, SubjectAt, sides-within, first-size, rest-room}
 
 none-pending : [] ≡ pending-words edition-one []
 unfolding pending-words row sides
@@ -57,6 +53,12 @@ makes-after {l} i vs h M = record {
   tells = M .tells;
   holds = M .holds;
 }
+
+-- the entry is laid out aside
+pub postpone-beside : {l : List ℕ} (s : Subject) {to entry written lent : ℕ} {piece header : List ℕ} {a : Made} {r : List ℕ} → to + (lent + 8) ≤ entry
+    → Finished (postponed l s entry) to written lent piece header a r → Beside l r to lent entry
+unfolding postponed
+postpone-beside {l} s h F = beside-aside (s .x ∷ seg l (s .by) (s .m)) h (finished-beside F)
 
 module _ {arities r₀ : List ℕ} {from to scratch lent : ℕ} {st : State} (H : Held arities r₀ from to scratch lent st) {e : Equation} {es : List Equation} (cut : st .pending ≡ e ∷ es) where
   abbrev end : ℕ
@@ -130,7 +132,7 @@ module _ {arities r₀ : List ℕ} {from to scratch lent : ℕ} {st : State} (H 
     unfolding state-size
     entry-small =
         let f : size-equations (st .pending) + size-named (st .pile) + size-named (st .bindings) ≤ lent = H .fits in
-        omega (arith, A .after, A .before, first-size H cut)
+        omega (arith, A .after, A .before, first-size st cut)
 
     pub postpone-first-parts : PostponeParts r₀ rest s scratch to lent (st .next)
     postpone-first-parts = record {

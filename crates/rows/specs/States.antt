@@ -1,16 +1,15 @@
 -- A state in words: its pending equations' sides, left, right, left, right .., then its pile, then its bindings. The body is as long as the state is
 -- large. A binding of x to t replaces x's word by t's words in all but the bindings.
-use Prim.Native.Nat.{ℕ, zero, suc, _+_, _-_, _<_, _≤_}
+use Prim.Native.Nat.{ℕ, _+_, _-_, _<_}
 use mathlib.Core.Path.{_≡_, refl, ap, sym, _∙_}
 use mathlib.Core.List.{List, [], _∷_, _++_, append-assoc, append-nil, map}
-use mathlib.Core.Bool.{Bool, true, false, cond}
 use native.Mathlib.Omega.{arith}
 use lib.Dec.{eqb}
 use lib.ListN.{length, length-append}
 use borrow.Author.Tests.{eqb-true, eqb-false}
 use Rattle.room.specs.Replaced.{replaced, replaced-nil, replaced-cons, replaced-append, image-same, image-other, by-test}
 use Rattle.terms.specs.Bounds.{Bounds, Proper}
-use Rattle.terms.specs.Term.{Term, words, size, subst}
+use Rattle.terms.specs.Term.{Term, words, subst}
 use Rattle.terms.specs.Formed.{Equation, sides, row}
 use Rattle.terms.specs.Answers.{Named, binding-words}
 use Rattle.terms.specs.Flat.{length-words}

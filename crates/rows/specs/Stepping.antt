@@ -1,22 +1,22 @@
 -- Which step an equation calls for, read off the words of its two sides: `classify`, said of words.
-use Prim.Native.Nat.{ℕ, zero, suc, _+_, _-_, _<_, _≤_}
+use Prim.Native.Nat.{ℕ, _+_, _-_, _<_}
 use mathlib.Core.Path.{_≡_, refl, ap, sym, _∙_}
-use mathlib.Core.List.{List, [], _∷_, _++_, append-nil}
+use mathlib.Core.List.{List, [], append-nil}
 use mathlib.Core.Bool.{Bool, true, false, cond, _&&_, not}
 use native.Mathlib.Omega.{arith}
 use lib.Dec.{eqb}
-use lib.ListN.{length, take, getD}
+use lib.ListN.{take, getD}
 use borrow.Author.Tests.{eq-eqb, ne-eqb, eqb-true, eqb-false}
 use Rattle.room.specs.Replaced.{by-test}
-use Rattle.terms.specs.Bounds.{Bounds, Proper}
+use Rattle.terms.specs.Bounds.{Bounds}
 use Rattle.terms.specs.Kind.{within, Worded}
-use Rattle.terms.specs.Term.{Term, unknown, empty, with, functor, words, size, members, kernel, occurs}
+use Rattle.terms.specs.Term.{Term, unknown, words, members, kernel, occurs}
 use Rattle.terms.specs.Shape.{is-unknown, number}
 use Rattle.terms.specs.Formed.{Formed, formed-unknown, formed-empty, formed-with, formed-functor}
 use Rattle.search.specs.declared.steps.Tails.{Tails}
-use Rattle.search.specs.declared.steps.Tails.the-variants.{Neither, Left, Right, Different, Same}
+use Rattle.search.specs.declared.steps.Tails.the-variants.{Different}
 use Rattle.search.specs.declared.steps.Step.{Step}
-use Rattle.search.specs.declared.steps.Step.the-variants.{Drop, Bind, Postpone, Decompose, Split, Dead}
+use Rattle.search.specs.declared.steps.Step.the-variants.{Drop, Bind, Decompose, Split, Dead}
 use Rattle.search.specs.Classify.{tails-by, tails, only-tail, meet-by, meet, classify}
 use Rattle.rows.specs.Flat.{holds, holds-words, eqb-unknown}
 use Rattle.rows.specs.Stripped.{kernel-at, kernel-at-words, kernel-place}

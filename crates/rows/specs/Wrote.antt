@@ -1,14 +1,13 @@
 -- What is written into a row from left to right, in at most so many words: the pieces of a child's body. A writer tells Done with the number of
 -- words of its piece, where these fit, and Full where they don't; then some words are written all the same, none of them past the capacity.
-use Prim.Native.Nat.{ℕ, suc, _+_, _-_, _<_, _≤_}
+use Prim.Native.Nat.{ℕ, _+_, _-_, _<_, _≤_}
 use mathlib.Core.Path.{_≡_, refl, ap, sym, _∙_}
-use mathlib.Core.List.{List, [], _∷_, _++_, append-assoc, append-nil}
+use mathlib.Core.List.{List, [], _++_}
 use native.Mathlib.Omega.{arith}
-use native.Mathlib.Decide.{decLe}
 use lib.ListN.{length, length-append}
 use Rattle.room.specs.Room.{put, length-put, put-nil, put-put}
 use Rattle.room.specs.Replaced.{replaced}
-use Rattle.room.specs.Fitting.{fitting, told, fitting-all, length-fitting, told-of-le, told-of-lt, told-done, told-full}
+use Rattle.room.specs.Fitting.{fitting, told, fitting-all, length-fitting, told-of-le, told-of-lt, told-done, told-full, further, told-append}
 use Rattle.room.specs.declared.Copied.{Copied}
 use Rattle.room.specs.declared.Copied.the-variants.{Done, Full}
 
@@ -20,11 +19,6 @@ pub record Wrote (r₀ : List ℕ) (place capacity : ℕ) (piece : List ℕ) (a 
   pub tells : a ≡ told capacity piece
   pub whole : length piece ≤ capacity → out ≡ piece
 
--- further n words more
-unfoldable pub further : ℕ → Copied → Copied
-further n (Done k) = Done (n + k)
-further n Full = Full
-
 pub wrote-nothing : (r : List ℕ) (place capacity : ℕ) → Wrote r place capacity [] (Done 0) r
 wrote-nothing r place capacity = record {
   out = [];
@@ -32,6 +26,27 @@ wrote-nothing r place capacity = record {
   within = omega arith;
   tells = sym (told-of-le capacity [] (omega arith));
   whole = λ h. refl;
+}
+
+-- it does not fit, and nothing is written
+pub wrote-full : (r : List ℕ) (place : ℕ) {capacity : ℕ} (piece : List ℕ) → capacity < length piece → Wrote r place capacity piece Full r
+wrote-full r place {capacity} piece h = record {
+  out = [];
+  room = sym (put-nil r place);
+  within = omega arith;
+  tells = sym (told-of-lt capacity piece h);
+  whole = λ f. absurd (omega arith);
+}
+
+-- it fits, and all of it is written
+pub wrote-all : {r₀ : List ℕ} {place capacity n : ℕ} (piece : List ℕ) {r : List ℕ} → length piece ≡ n → n ≤ capacity → r ≡ put r₀ place piece
+    → Wrote r₀ place capacity piece (Done n) r
+wrote-all {capacity = capacity} piece l h e = record {
+  out = piece;
+  room = e;
+  within = omega arith;
+  tells = sym (told-of-le capacity piece (omega arith) ∙ ap Done l);
+  whole = λ g. refl;
 }
 
 -- as `room::replace` ensures it
@@ -44,17 +59,6 @@ wrote-replaced {capacity = capacity} x ws s e f = record {
   tells = e;
   whole = fitting-all x ws capacity s;
 }
-
-told-more : (capacity n : ℕ) (p q : List ℕ) → length p ≤ capacity → length p ≡ n → further n (told (capacity - n) q) ≡ told capacity (p ++ q)
-unfolding further
-told-more capacity n p q h e = by-order (decLe (length q) (capacity - n))
-  where
-    by-order : Dec (length q ≤ capacity - n) → further n (told (capacity - n) q) ≡ told capacity (p ++ q)
-    by-order (yes f) =
-        let l : length (p ++ q) ≡ n + length q = length-append p q ∙ ap (λ k. k + length q) e in
-        rw (told-of-le (capacity - n) q f, told-of-le capacity (p ++ q) (omega arith), l)
-    by-order (no f) =
-        rw (told-of-lt (capacity - n) q (omega arith), told-of-lt capacity (p ++ q) (omega (arith, length-append p q)))
 
 module _ {r₀ : List ℕ} {place capacity : ℕ} {p : List ℕ} where
   pub wrote-length : {a : Copied} {r : List ℕ} → Wrote r₀ place capacity p a r → length r ≡ length r₀
@@ -94,6 +98,6 @@ module _ {r₀ : List ℕ} {place capacity : ℕ} {p : List ℕ} where
         out = p ++ v .out;
         room = v .room ∙ rw (done-room w, ← l) (put-put p r₀ (v .out) place);
         within = omega (arith, length-append p (v .out), v .within);
-        tells = ap (further n) (v .tells) ∙ told-more capacity n p q f l;
+        tells = ap (further n) (v .tells) ∙ rw (← l) (sym (told-append capacity p q f));
         whole = λ k. ap (λ (u : List ℕ). p ++ u) (v .whole (omega arith));
       }

@@ -12,9 +12,10 @@ ghost use Rattle.rows.specs.Finished.{Finished, bound-header};
 use crate::header::HEADER;
 use crate::header::Header;
 use crate::header::seal;
-use crate::pile::Part;
-use crate::pile::replace_entries;
+use crate::pile::replace_others;
+use crate::pile::replace_released;
 use room::Copied;
+use terms::bounds::FIRST_UNKNOWN;
 
 // What became of a due node.
 pub enum Made {
@@ -52,12 +53,11 @@ fn bind_pending(
 {
     let at = rest.at;
     let n = rest.pending;
-    match room::replace(room, at, n, x, by, m, to, capacity) {
+    match room::replace_all(room, at, n, x, by, m, to, capacity) {
         Copied::Done(k) => {
-            match replace_entries(
+            match replace_released(
                 arities,
                 room,
-                Part::Entries,
                 at + n,
                 rest.pile,
                 x,
@@ -93,7 +93,7 @@ fn bind_last(
         return Copied::Full;
     }
     room::copy(room, at, n, to);
-    room[to + n] = x - 1000;
+    room[to + n] = x - FIRST_UNKNOWN;
     room::copy(room, by, m, to + n + 1);
     Copied::Done(n + 1 + m)
 }
@@ -153,10 +153,9 @@ pub fn finish_pile(
     ensures { λ r. ⌜ Finished (now (room .entry)) to pending size (pile-piece edition-one (now (arities .entry)) (now (room .entry)) rest x by m ++ last-piece (now (room .entry)) rest x by m) (header-of (bound-header rest pending (length (pile-piece edition-one (now (arities .entry)) (now (room .entry)) rest x by m)) m next)) r (now (room .exit)) ⌝ }
 {
     let at = rest.at + rest.pending;
-    match replace_entries(
+    match replace_others(
         arities,
         room,
-        Part::Others,
         at,
         rest.pile,
         x,

@@ -13,6 +13,8 @@ use crate::bind::finish_pile;
 use crate::walk::end_of_term;
 use crate::walk::is_in;
 use crate::walk::place_of_kernel;
+use terms::bounds::FIRST_UNKNOWN;
+use terms::bounds::PATH_UNKNOWNS;
 
 // Writes the members, each with its mark, of all entries of x in the n words at `from`, and answers how many words they are.
 fn gather(arities: &[u8], room: &mut [u16], from: usize, n: usize, x: u16, to: usize) -> usize
@@ -59,9 +61,9 @@ pub fn join(
     if is_in(&room[value..last], x) {
         return Made::Dead;
     }
-    if 512 <= next {
+    if PATH_UNKNOWNS <= next {
         return Made::Names;
     }
-    room[last] = 1000 + next as u16;
+    room[last] = FIRST_UNKNOWN + next as u16;
     finish_pile(arities, room, rest, x, value, m + 1, to, 0, size, next + 1)
 }

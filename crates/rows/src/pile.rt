@@ -6,9 +6,11 @@ ghost use Rattle.room.specs.Room.{seg};
 ghost use Rattle.room.specs.Parts.{ReplaceParts};
 ghost use Rattle.room.specs.Replaced.{replaced};
 ghost use Rattle.terms.specs.Bounds.{edition-one};
+ghost use Rattle.rows.specs.declared.pile.Part.the-variants.{Entries, Others};
 ghost use Rattle.rows.specs.Pile.{wants, selection};
 ghost use Rattle.rows.specs.Wrote.{Wrote};
 use crate::walk::end_of_term;
+use crate::walk::is_in;
 use room::Copied;
 
 // Which entries of a pile.
@@ -28,8 +30,9 @@ fn wanted(part: Part, name: u16, x: u16) -> bool
     }
 }
 
-// Writes those of the entries in the n words at `from` to the place `to`, with the m words at `by` for each word x, in at most `capacity` words.
-pub fn replace_entries(
+// Writes a part of the entries in the n words at `from` to the place `to`, with the m words at `by` for each word x, in at most `capacity` words: one
+// entry after the other.
+fn replace_entries(
     arities: &[u8],
     room: &mut [u16],
     part: Part,
@@ -66,4 +69,91 @@ pub fn replace_entries(
         }
     }
     Copied::Done(written)
+}
+
+// `replace_entries`, which need not walk where x is none of the words: then no entry is x's, and the others are written as they are.
+fn replace_part(
+    arities: &[u8],
+    room: &mut [u16],
+    part: Part,
+    from: usize,
+    n: usize,
+    x: u16,
+    by: usize,
+    m: usize,
+    to: usize,
+    capacity: usize,
+) -> Copied
+    requires { ⌜ ReplaceParts (now room) from n by m to capacity × length (now room) < 2 ^ 32 ⌝ }
+    ensures { λ r. ⌜ Wrote (now (room .entry)) to capacity (replaced x (seg (now (room .entry)) by m) (selection edition-one (now (arities .entry)) part x (seg (now (room .entry)) from n))) r (now (room .exit)) ⌝ }
+{
+    let end = from + n;
+    if !is_in(&room[from..end], x) {
+        match part {
+            Part::Entries => {
+                return Copied::Done(0);
+            }
+            Part::Others => {
+                if capacity < n {
+                    return Copied::Full;
+                }
+                room::copy(room, from, n, to);
+                return Copied::Done(n);
+            }
+        }
+    }
+    replace_entries(arities, room, part, from, n, x, by, m, to, capacity)
+}
+
+// Writes the entries of x, which its binding releases. Many piles are empty, and need no look.
+pub fn replace_released(
+    arities: &[u8],
+    room: &mut [u16],
+    from: usize,
+    n: usize,
+    x: u16,
+    by: usize,
+    m: usize,
+    to: usize,
+    capacity: usize,
+) -> Copied
+    requires { ⌜ ReplaceParts (now room) from n by m to capacity × length (now room) < 2 ^ 32 ⌝ }
+    ensures { λ r. ⌜ Wrote (now (room .entry)) to capacity (replaced x (seg (now (room .entry)) by m) (selection edition-one (now (arities .entry)) Entries x (seg (now (room .entry)) from n))) r (now (room .exit)) ⌝ }
+{
+    if n == 0 {
+        return Copied::Done(0);
+    }
+    replace_part(
+        arities,
+        room,
+        Part::Entries,
+        from,
+        n,
+        x,
+        by,
+        m,
+        to,
+        capacity,
+    )
+}
+
+// Writes the other entries, which stay in the pile.
+pub fn replace_others(
+    arities: &[u8],
+    room: &mut [u16],
+    from: usize,
+    n: usize,
+    x: u16,
+    by: usize,
+    m: usize,
+    to: usize,
+    capacity: usize,
+) -> Copied
+    requires { ⌜ ReplaceParts (now room) from n by m to capacity × length (now room) < 2 ^ 32 ⌝ }
+    ensures { λ r. ⌜ Wrote (now (room .entry)) to capacity (replaced x (seg (now (room .entry)) by m) (selection edition-one (now (arities .entry)) Others x (seg (now (room .entry)) from n))) r (now (room .exit)) ⌝ }
+{
+    if n == 0 {
+        return Copied::Done(0);
+    }
+    replace_part(arities, room, Part::Others, from, n, x, by, m, to, capacity)
 }

@@ -9,6 +9,8 @@ ghost use Rattle.terms.specs.Kind.{takes, within};
 ghost use Rattle.rows.specs.Ended.{term-end};
 ghost use Rattle.rows.specs.Stripped.{kernel-at};
 ghost use Rattle.rows.specs.Flat.{holds};
+use terms::bounds::FIRST_FUNCTOR;
+use terms::bounds::FIRST_UNKNOWN;
 
 pub fn wide(word: u16) -> usize
     ensures { λ r. ⌜ r ≡ word ⌝ }
@@ -20,28 +22,18 @@ pub fn wide(word: u16) -> usize
 pub fn is_unknown(word: u16) -> bool
     ensures { λ r. ⌜ r ≡ within 1000 1000 word ⌝ }
 {
-    1000 <= word && word < 2000
+    FIRST_UNKNOWN <= word && word < FIRST_FUNCTOR
 }
 
 // How many terms follow a word.
 pub fn terms_after(arities: &[u8], word: u16) -> usize
     ensures { λ r. ⌜ (r ≡ takes edition-one (now (arities .entry)) word) × (r < 256) ⌝ }
 {
-    if word == 1 {
-        return 2;
-    }
-    if word < 2000 {
-        return 0;
-    }
-    let k = wide(word) - 2000;
-    if k < arities.len() {
-        return arities[k] as usize;
-    }
-    0
+    terms::walk::terms_after(arities, word) as usize
 }
 
-// The place after the first term of the words, or their end where it does not end before.
-pub fn end_of_term(arities: &[u8], words: &[u16]) -> usize
+// `end_of_term`, word by word: so many terms are due.
+fn walk_to_end(arities: &[u8], words: &[u16]) -> usize
     requires { ⌜ length (now words) < 2 ^ 32 ⌝ }
     ensures { λ r. ⌜ r ≡ term-end edition-one (now (arities .entry)) (now (words .entry)) ⌝ }
 {
@@ -55,6 +47,19 @@ pub fn end_of_term(arities: &[u8], words: &[u16]) -> usize
         place += 1;
     }
     place
+}
+
+// The place after the first term of the words, or their end where it does not end before. Many terms are one word, which needs no walk.
+pub fn end_of_term(arities: &[u8], words: &[u16]) -> usize
+    requires { ⌜ length (now words) < 2 ^ 32 ⌝ }
+    ensures { λ r. ⌜ r ≡ term-end edition-one (now (arities .entry)) (now (words .entry)) ⌝ }
+{
+    if 0 < words.len() {
+        if terms_after(arities, words[0]) == 0 {
+            return 1;
+        }
+    }
+    walk_to_end(arities, words)
 }
 
 // The place of the kernel of the term that the words begin with.

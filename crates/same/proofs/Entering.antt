@@ -18,9 +18,9 @@ use Rattle.terms.specs.Reading.{read, top, question-of}
 use Rattle.terms.specs.declared.refusal.Checked.the-variants.{Fine}
 use Rattle.laws.specs.Equal.{equal}
 use Rattle.laws.specs.Values.{in-order, solves-test}
-use Rattle.same.specs.Places.{terms-from, held, values, Placed}
+use Rattle.places.specs.Places.{terms-from, held, values, Placed}
+use Rattle.places.specs.Opened.{value-ground}
 use Rattle.same.specs.Holding.{holding, Equations, WithValues}
-use Rattle.same.specs.Opened.{value-ground}
 use Rattle.same.proofs.Asking.{from-first, from-values, holding-solves}
 
 and-true : (b : Bool) → (b && true) ≡ b

@@ -14,14 +14,14 @@ use Rattle.terms.specs.Reading.{read, top}
 use Rattle.terms.specs.Term.{Term}
 use Rattle.laws.specs.Equal.{equal}
 use Rattle.laws.specs.Values.{Values, value}
-use Rattle.same.specs.Places.{terms-from, tree, end, Terms, Held, values, valued, Placed, resolved}
-use Rattle.same.specs.Classes.{Classes, Settled, EachItsOwn, Comparing, Same}
+use Rattle.places.specs.Places.{terms-from, tree, end, Terms, Held, values, valued, Placed, resolved}
+use Rattle.places.specs.Classes.{Classes, Settled, EachItsOwn, Comparing, Same}
+use Rattle.places.specs.Opened.{resolving}
+use Rattle.places.specs.Relabelled.{each-its-own}
+use Rattle.places.specs.Standing.{standing}
+use Rattle.places.specs.Since.{settled-told}
 use Rattle.same.specs.Holding.{holding, Equations}
-use Rattle.same.specs.Opened.{resolving}
-use Rattle.same.specs.Ranks.{AllSettled}
-use Rattle.same.specs.Relabelled.{each-its-own}
-use Rattle.same.specs.Standing.{standing}
-use Rattle.same.proofs.Meeting.{settled-told}
+use Rattle.same.specs.Settling.{AllSettled}
 
 -- ---- terms one after the other
 

@@ -14,12 +14,13 @@ use Rattle.terms.specs.Term.{Term}
 use Rattle.laws.specs.Agree.{agree}
 use Rattle.laws.specs.Equal.{equal}
 use Rattle.laws.specs.Rank.{rank, rank-≈}
-use Rattle.same.specs.Places.{Held, valued}
-use Rattle.same.specs.Classes.{Comparing, IsSettled, Settled, Same}
-use Rattle.same.specs.Ranks.{Ranked, AllSettled, Settling, Settles, Unsettled}
-use Rattle.same.specs.Relabelled.{equal-back, equal-through}
-use Rattle.same.proofs.Meeting.{Since, since-start, since-told, label-kept, settled-since}
-use Rattle.same.proofs.Ranking.{ranked-set, ranked-none}
+use Rattle.places.specs.Places.{Held, valued}
+use Rattle.places.specs.Classes.{Comparing, IsSettled, Settled, Same}
+use Rattle.places.specs.Ranks.{Ranked}
+use Rattle.places.specs.Relabelled.{equal-back, equal-through}
+use Rattle.places.specs.Since.{Since, since-start, since-told, label-kept, settled-since}
+use Rattle.places.specs.Ranked.{ranked-set, ranked-none}
+use Rattle.same.specs.Settling.{AllSettled, Settling, Settles, Unsettled}
 
 equal-ranks : (t u : Term) → equal t u ≡ true → rank t ≡ rank u
 equal-ranks t u e = rank-≈ ((agree t u) .1 e)

@@ -9,9 +9,9 @@ use lib.Seq.{take-suc-set, take-all}
 use Rattle.terms.specs.Bounds.{Bounds}
 use Rattle.terms.specs.Reading.{top}
 use Rattle.terms.specs.Term.{empty}
-use Rattle.same.specs.Places.{terms-from, tree, end, Terms}
+use Rattle.places.specs.Places.{terms-from, tree, end, Terms}
+use Rattle.places.specs.Standing.{standing, Within}
 use Rattle.same.specs.Holding.{starts-from, Standings}
-use Rattle.same.specs.Standing.{standing, Within}
 use Rattle.same.proofs.Holds.{has-place, next-length}
 
 -- ---- noted one after the other

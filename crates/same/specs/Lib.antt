@@ -1,10 +1,3 @@
-pub mod Places
-pub mod Classes
-pub mod Standing
-pub mod Opened
-pub mod Relabelled
-pub mod Membership
-pub mod Arguments
 pub mod Holding
 pub mod Answering
-pub mod Ranks
+pub mod Settling

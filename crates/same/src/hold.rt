@@ -3,18 +3,18 @@ ghost use mathlib.Core.Path.{_≡_};
 ghost use lib.ListN.{length};
 ghost use Rattle.terms.specs.Bounds.{edition-one};
 ghost use Rattle.laws.specs.Values.{in-order};
-ghost use Rattle.same.specs.Places.{held, values, terms-from};
+ghost use Rattle.places.specs.Places.{held, values, terms-from};
 ghost use Rattle.same.specs.Holding.{holding, starts-from, Equations, Standings, WithValues};
-ghost use Rattle.same.specs.Ranks.{AllSettled};
-use crate::classes::blank;
-use crate::classes::clear;
-use crate::classes::number;
-use crate::compare::same;
-use crate::places::resolve;
-use crate::places::term_end;
-use crate::ranks::rank_all;
+ghost use Rattle.same.specs.Settling.{AllSettled};
 use crate::settle::settle;
 use crate::spread::spreads_little;
+use places::classes::blank;
+use places::classes::clear;
+use places::classes::number;
+use places::compare::same;
+use places::places::resolve;
+use places::places::term_end;
+use places::ranks::rank_all;
 
 // Do the first so many equations of the words hold?
 fn each_holds(

@@ -1,9 +1,8 @@
 // How two terms are compared in words: `equal` tests two ground terms, `solves` whether given ground values solve a question. Each takes any input, and
 // writes nothing.
 //
-// A client's contracts cite `specs/Answering.antt`, what the two answer. `places` finds the way about words that hold terms, `classes` keeps labels of
-// places whose terms are equal, `compare` and `scan` compare the terms at two places, `ranks` and `settle` do so beforehand where values may stand in many
-// places, which `spread` tells, `hold` goes through equations.
+// A client's contracts cite `specs/Answering.antt`, what the two answer. Crate `places` compares the terms at two places; here `hold` goes through equations
+// with it, and `settle` compares all places beforehand where values may stand in many, which `spread` tells.
 ghost use mathlib.Core.Path.{_≡_};
 ghost use lib.ListN.{drop};
 ghost use Rattle.terms.specs.Bounds.{edition-one};
@@ -14,19 +13,15 @@ ghost use Rattle.laws.specs.Equal.{equal as test};
 ghost use Rattle.laws.specs.Values.{in-order, solves-test};
 ghost use Rattle.same.specs.Answering.{equal-answer, solves-answer};
 
-pub mod classes;
-pub mod compare;
 pub mod hold;
-pub mod places;
-pub mod ranks;
-pub mod scan;
 pub mod settle;
 pub mod spread;
 
-use crate::classes::blank;
 use crate::hold::all_hold;
 use crate::hold::values_hold;
+use places::classes::blank;
 use room::copy_in;
+use terms::bounds::UNKNOWNS;
 use terms::check::check_question;
 use terms::check::check_row;
 use terms::refusal::Checked;
@@ -109,7 +104,7 @@ fn values_solve(
     ensures { λ r. ⌜ r ≡ solves-test (in-order (read edition-one (now (arities .entry)) (now (row .entry)))) (question-of edition-one unknowns (now (arities .entry)) (now (words .entry)) .equations) ⌝ }
 {
     let mut held = blank();
-    let mut starts = [0u16; 256];
+    let mut starts = [0u16; UNKNOWNS];
     let mut labels = blank();
     let n = words.len();
     let end = n + row.len();

@@ -1,18 +1,12 @@
 // How many words a question has with its values put in: where they are few, it is compared as it stands, and where a value stands in many places, places are
 // settled first.
 ghost use Prim.Native.Nat.{_≤_};
-ghost use mathlib.Core.Path.{_≡_};
+use places::places::wide;
 use terms::bounds::FIRST_FUNCTOR;
 use terms::bounds::FIRST_UNKNOWN;
 
 // So few that the comparison, which goes one level deeper for each bracket, stays within 1 MiB of stack.
 const FEW: usize = 6144;
-
-fn wide(word: u16) -> usize
-    ensures { λ r. ⌜ r ≡ word ⌝ }
-{
-    word as usize
-}
 
 // The words from one place to another, or one more than FEW where they are more.
 fn words_between(start: usize, end: usize) -> usize

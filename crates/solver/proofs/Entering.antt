@@ -31,11 +31,12 @@ use Rattle.children.specs.Became.{few-names, small-enough}
 use Rattle.children.specs.Next.{dead-ends, Tells, then-live}
 use Rattle.solver.specs.declared.running.Record.{Record}
 use Rattle.solver.specs.Counts.{counted, with-answers, fits, answer-in, note-by, held-by}
+use Rattle.solver.specs.Desk.{Desk, open-above, desk-kept}
 use Rattle.solver.specs.Number.{number-words}
 use Rattle.solver.specs.Passing.{long-overflows}
 use Rattle.solver.specs.Path.{Row, Rows, a-row, holds-kept, rows-kept, part-kept, numbered, before-number, holds-numbered, holds-after, part-after, fresh-number}
 use Rattle.solver.specs.Result.{loan}
-use Rattle.solver.specs.Running.{Given, given, remains, Running, Turned, goes, ends, most-of, OpenParts, child-place, child-row, noted-turn, node-turn, node-room, node-answers}
+use Rattle.solver.specs.Running.{Given, given, remains, scratch-of, Running, Turned, goes, ends, most-of, OpenParts, child-place, child-row, noted-turn, node-turn, node-room, node-answers}
 use Rattle.solver.proofs.Answering.{answer-held, held-notable}
 use Rattle.solver.proofs.Meeting.{next-visit, met, open-to}
 use Rattle.solver.proofs.Standing.{passed, rows-above, row-here, ready, most-few, most-deep}
@@ -90,7 +91,7 @@ child-of (suc c) (both h hs) e = child-of c hs e
 live-orderly : {arities : List ℕ} {st : State} → Is-live (Orderly arities) (live st) → Orderly arities st
 live-orderly (is-live o) = o
 
-module _ {arities : List ℕ} {limits : Limits} {l a : List ℕ} {level : ℕ} {r : Record} {to : Given} (R : Running arities limits l a level r to) {k : ℕ} {l₁ : List ℕ}
+module _ {arities : List ℕ} {limits : Limits} {l a : List ℕ} {level shown : ℕ} {r : Record} {to : Given} (R : Running arities limits l a level shown r to) {k : ℕ} {l₁ : List ℕ}
     (long : length l₁ ≡ length l) (below : seg l₁ 0 (child-place limits level) ≡ seg l 0 (child-place limits level)) (next : State) (rest : List Node)
     (h : k < most-of limits level r) (e : drop (R .top .child) (children (R .top .state)) ≡ dead-ends k ++ (live next ∷ rest))
     (M : Makes edition-one l (child-place limits level) (limits .size) (live next) Live l₁) where
@@ -184,6 +185,14 @@ module _ {arities : List ℕ} {limits : Limits} {l a : List ℕ} {level : ℕ} {
       (a-row here-row
       (rows-kept l l₂ at rows-before (length-put l₁ (at + 5) (number-words number) ∙ long) {more = r .visited + k + 1} (omega arith) (R .above) (rw (R .levels) (omega arith)) (rows-above (R .rows))))
 
+  -- ---- the split that stands open
+
+  child-desk : {shown₁ : ℕ} → Desk l₁ (limits .size) (scratch-of limits) (here ∷ R .above) shown₁
+      → Desk l₂ (limits .size) (scratch-of limits) (record { state = next; child = 0 } ∷ here ∷ R .above) shown₁
+  child-desk D =
+      open-above
+      (desk-kept (part-after l₁ at number here-within (scratch-of limits) (3 * (limits .size + 8)) (omega (arith, ready R .row))) (rows-above rows-then) D)
+
   -- ---- the turn
 
   left-now : (0 < (left (loan limits (length a)) (r .visited + k) (r .words)) .steps) × (suc (length (R .above)) ≤ (left (loan limits (length a)) (r .visited + k) (r .words)) .depth)
@@ -208,10 +217,10 @@ module _ {arities : List ℕ} {limits : Limits} {l a : List ℕ} {level : ℕ} {
       (allowed edition-one (left (loan limits (length a)) (r .visited + k) (r .words)) v
       (record { steps = left-now .0; depth = left-now .1; names = few; size = small; space = f }))
 
-  goes-below : found-size edition-one v ≤ length a - r .words
-      → Running arities limits l₂ (then limits (counted r k) a v deeper) (level + 1) (more limits (counted r k) a v deeper) to
+  goes-below : {shown₁ : ℕ} → Desk l₁ (limits .size) (scratch-of limits) (here ∷ R .above) shown₁ → found-size edition-one v ≤ length a - r .words
+      → Running arities limits l₂ (then limits (counted r k) a v deeper) (level + 1) shown₁ (more limits (counted r k) a v deeper) to
   unfolding with-answers found-size
-  goes-below f =
+  goes-below D f =
       let p = length-put a (r .words) (listed (found edition-one (v .answer))) in
       let o = one-at-most (v .answer) in
       record {
@@ -220,6 +229,7 @@ module _ {arities : List ℕ} {limits : Limits} {l a : List ℕ} {level : ℕ} {
         above = here ∷ R .above;
         rows = rows-then;
         levels = omega (arith, R .levels);
+        desk = child-desk D;
         deep = omega (arith, most-deep limits level r (omega arith));
         steps = omega (arith, R .steps, most-few limits level r);
         answers = omega (arith, R .answers);
@@ -227,16 +237,17 @@ module _ {arities : List ℕ} {limits : Limits} {l a : List ℕ} {level : ℕ} {
         gives = went-on f;
       }
 
-  pub turned-open : Turned arities limits (node-room limits level l₁ (R .top .child + k) Live) (node-answers limits level l₁ a (counted r k) Live) level r to
-      (node-turn limits level l₁ (length a) (counted r k) Live)
+  pub turned-open : {shown₁ : ℕ} → Desk l₁ (limits .size) (scratch-of limits) (here ∷ R .above) shown₁
+      → Turned arities limits (node-room limits level l₁ (R .top .child + k) Live) (node-answers limits level l₁ a (counted r k) Live) level r to
+      (node-turn limits level l₁ (length a) (counted r k) Live) shown₁
   unfolding node-room node-answers node-turn noted-turn note-by held-by fits found-size with-answers
-  turned-open =
+  turned-open D =
       rw answer
       (by-test (leb (length (listed (found edition-one (v .answer)))) (length a - r .words))
-      (λ t. rw t (goes {deeper = level + 1} {more = more limits (counted r k) a v deeper} (goes-below (leb-true _ _ t)) (omega arith)))
+      (λ t. rw t (goes {deeper = level + 1} {more = more limits (counted r k) a v deeper} (goes-below D (leb-true _ _ t)) (omega arith)))
       (λ f. rw f (ends (overflowed (leb-false _ _ f)))))
 
-module _ {arities : List ℕ} {limits : Limits} {l a : List ℕ} {level : ℕ} {r : Record} {to : Given} (R : Running arities limits l a level r to) {k : ℕ} {l₁ : List ℕ}
+module _ {arities : List ℕ} {limits : Limits} {l a : List ℕ} {level shown : ℕ} {r : Record} {to : Given} (R : Running arities limits l a level shown r to) {k : ℕ} {l₁ : List ℕ}
     (C : Told R (Found k Live) l₁) where
   pub live-parts : OpenParts limits level l₁ a (counted r k) (R .top .child + k)
   live-parts = go (C .tells)
@@ -245,11 +256,12 @@ module _ {arities : List ℕ} {limits : Limits} {l a : List ℕ} {level : ℕ} {
           → OpenParts limits level l₁ a (counted r k) (R .top .child + k)
       go (then-live next rest h e M) = open-parts R (C .long) (C .below) next rest h e M
 
-  pub turned-live : Turned arities limits (node-room limits level l₁ (R .top .child + k) Live) (node-answers limits level l₁ a (counted r k) Live) level r to
-      (node-turn limits level l₁ (length a) (counted r k) Live)
-  turned-live = go (C .tells)
+  pub turned-live : {shown₁ : ℕ} → Desk l₁ (limits .size) (scratch-of limits) (record { state = R .top .state; child = suc (R .top .child + k) } ∷ R .above) shown₁
+      → Turned arities limits (node-room limits level l₁ (R .top .child + k) Live) (node-answers limits level l₁ a (counted r k) Live) level r to
+      (node-turn limits level l₁ (length a) (counted r k) Live) shown₁
+  turned-live {shown₁} D = go (C .tells)
     where
       go : Tells l (child-place limits level) (limits .size) (drop (R .top .child) (children (R .top .state))) (most-of limits level r) l₁ (Found k Live)
           → Turned arities limits (node-room limits level l₁ (R .top .child + k) Live) (node-answers limits level l₁ a (counted r k) Live) level r to
-          (node-turn limits level l₁ (length a) (counted r k) Live)
-      go (then-live next rest h e M) = turned-open R (C .long) (C .below) next rest h e M
+          (node-turn limits level l₁ (length a) (counted r k) Live) shown₁
+      go (then-live next rest h e M) = turned-open R (C .long) (C .below) next rest h e M D

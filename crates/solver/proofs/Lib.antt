@@ -4,6 +4,8 @@ pub mod Opening
 pub mod Answering
 pub mod Sounding
 pub mod Standing
+pub mod Desking
+pub mod Showing
 pub mod Turning
 pub mod Meeting
 pub mod Entering

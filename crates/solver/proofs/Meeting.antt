@@ -11,6 +11,7 @@ use Rattle.search.specs.State.{State, Node, live}
 use Rattle.search.specs.Children.{children}
 use Rattle.search.specs.Run.{Visit, visit}
 use Rattle.turns.specs.Going.{left, to-come, to-come-live}
+use Rattle.turns.specs.Numbers.{drop-next}
 use Rattle.rows.specs.declared.bind.Made.the-variants.{Dead, Names as ManyNames, Large}
 use Rattle.children.specs.declared.next.Next.the-variants.{Node as Found}
 use Rattle.children.specs.Became.{many-names, few-names, too-large, never-dead}
@@ -18,13 +19,13 @@ use Rattle.children.specs.Next.{dead-ends, Tells, then-live}
 use Rattle.solver.specs.declared.running.Record.{Record}
 use Rattle.solver.specs.declared.turn.Turn.the-variants.{End}
 use Rattle.solver.specs.Counts.{counted}
-use Rattle.solver.specs.Passing.{drop-next, names-stop, large-stops}
+use Rattle.solver.specs.Passing.{names-stop, large-stops}
 use Rattle.solver.specs.Result.{loan}
 use Rattle.solver.specs.Running.{Given, given, remains, Running, Turned, ends, most-of}
 use Rattle.solver.proofs.Standing.{passed, most-few, most-deep}
 use Rattle.solver.proofs.Turning.{stops-here, Told}
 
-module _ {arities : List ℕ} {limits : Limits} {l a : List ℕ} {level : ℕ} {r : Record} {to : Given} (R : Running arities limits l a level r to) where
+module _ {arities : List ℕ} {limits : Limits} {l a : List ℕ} {level shown : ℕ} {r : Record} {to : Given} (R : Running arities limits l a level shown r to) where
   abbrev pub next-visit : State → Visit
   next-visit next = visit (suc (length (R .above))) next
 
@@ -39,7 +40,7 @@ module _ {arities : List ℕ} {limits : Limits} {l a : List ℕ} {level : ℕ} {
       let p = passed R k (omega arith) e in
       p .1
       ∙ ap (λ vs. given (counted r k) a (remains limits (counted r k) (length a) vs))
-      (to-come-live (limits .depth) (R .top .state) (R .above) (R .top .child + k) next rest (p .0) (drop-next (R .top .child + k) (children (R .top .state)) (p .0)) (omega (arith, R .levels, R .deep)))
+      (to-come-live (limits .depth) (R .top .state) (R .above) (R .top .child + k) next rest (p .0) (drop-next (R .top .child + k) (children (R .top .state)) _ _ (p .0)) (omega (arith, R .levels, R .deep)))
 
   -- steps are left, and the node is not too deep
   pub open-to : (k : ℕ) → k < most-of limits level r
@@ -47,23 +48,23 @@ module _ {arities : List ℕ} {limits : Limits} {l a : List ℕ} {level : ℕ} {
   unfolding left loan
   open-to k h = (omega (arith, most-few limits level r), omega (arith, most-deep limits level r (omega arith), R .levels))
 
-  pub turned-names : {k : ℕ} {l₁ : List ℕ} → Told R (Found k ManyNames) l₁ → Turned arities limits l₁ a level r to (End (record { end = Names; counts = counted r k }))
+  pub turned-names : {k shown₁ : ℕ} {l₁ : List ℕ} → Told R (Found k ManyNames) l₁ → Turned arities limits l₁ a level r to (End (record { end = Names; counts = counted r k })) shown₁
   unfolding visit
-  turned-names {k} {l₁} C = go (C .tells)
+  turned-names {k} {shown₁} {l₁} C = go (C .tells)
     where
       go : {l₂ : List ℕ} → Tells l (level * (limits .size + 8) + (limits .size + 8)) (limits .size) (drop (R .top .child) (children (R .top .state))) (most-of limits level r) l₂ (Found k ManyNames)
-          → Turned arities limits l₁ a level r to (End (record { end = Names; counts = counted r k }))
+          → Turned arities limits l₁ a level r to (End (record { end = Names; counts = counted r k })) shown₁
       go (then-live next rest h e M) =
           let o = open-to k h in
           ends (met next rest k h e ∙ stops-here limits (counted r k) a (next-visit next) _ Names
           (names-stop edition-one (left (loan limits (length a)) (r .visited + k) (r .words)) (next-visit next) (o .0) (o .1) (many-names edition-one (limits .size) next (M .tells))))
 
-  pub turned-large : {k : ℕ} {l₁ : List ℕ} → Told R (Found k Large) l₁ → Turned arities limits l₁ a level r to (End (record { end = Size; counts = counted r k }))
+  pub turned-large : {k shown₁ : ℕ} {l₁ : List ℕ} → Told R (Found k Large) l₁ → Turned arities limits l₁ a level r to (End (record { end = Size; counts = counted r k })) shown₁
   unfolding visit left loan
-  turned-large {k} {l₁} C = go (C .tells)
+  turned-large {k} {shown₁} {l₁} C = go (C .tells)
     where
       go : {l₂ : List ℕ} → Tells l (level * (limits .size + 8) + (limits .size + 8)) (limits .size) (drop (R .top .child) (children (R .top .state))) (most-of limits level r) l₂ (Found k Large)
-          → Turned arities limits l₁ a level r to (End (record { end = Size; counts = counted r k }))
+          → Turned arities limits l₁ a level r to (End (record { end = Size; counts = counted r k })) shown₁
       go (then-live next rest h e M) =
           let o = open-to k h in
           let n = few-names edition-one (limits .size) next (M .tells) (λ q. let z : _≡_ {A = ℕ} 0 1 = cc in omega arith) in

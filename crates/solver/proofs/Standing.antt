@@ -56,7 +56,7 @@ needed-rows limits =
     rows-in-all : (d : ℕ) → d + 1 + 7 ≡ d + 8
     rows-in-all d = omega arith
 
-module _ {arities : List ℕ} {limits : Limits} {l a : List ℕ} {level : ℕ} {r : Record} {to : Given} (R : Running arities limits l a level r to) where
+module _ {arities : List ℕ} {limits : Limits} {l a : List ℕ} {level shown : ℕ} {r : Record} {to : Given} (R : Running arities limits l a level shown r to) where
   pub row-here : Row arities (limits .size) (r .visited) l (level * (limits .size + 8)) (R .top)
   row-here = rw (R .levels) at (top-row (R .rows))
 

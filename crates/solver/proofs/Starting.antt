@@ -22,6 +22,7 @@ use Rattle.solver.specs.declared.running.Noted.{Noted}
 use Rattle.solver.specs.declared.running.Noted.the-variants.{Held, Space as NoSpace}
 use Rattle.solver.specs.declared.turn.Ending.{Ending}
 use Rattle.solver.specs.Counts.{counted, with-answers, fits, answer-in, note-by, held-by, Notable}
+use Rattle.solver.specs.Desk.{nothing-open}
 use Rattle.solver.specs.Passing.{long-overflows}
 use Rattle.solver.specs.Path.{Row, no-rows, a-row, fresh-number}
 use Rattle.solver.specs.Result.{loan, needed, ending}
@@ -77,7 +78,7 @@ module _ {arities : List ℕ} {limits : Limits} {l a : List ℕ} {to : Given} (S
       rw zero-mul
       (record { holds = S .fresh .holds; number = fresh-number (S .fresh); small = S .small; few = S .few; orderly = S .orderly; passed = omega arith })
 
-  begun : found-size edition-one v ≤ length a → Running arities limits l (then limits nothing a v vs) 0 (more limits nothing a v vs) to
+  begun : found-size edition-one v ≤ length a → Running arities limits l (then limits nothing a v vs) 0 0 (more limits nothing a v vs) to
   unfolding with-answers found-size
   begun f =
       let p = length-put a 0 (listed (found edition-one (v .answer))) in
@@ -88,6 +89,7 @@ module _ {arities : List ℕ} {limits : Limits} {l a : List ℕ} {to : Given} (S
         above = [];
         rows = a-row root-row no-rows;
         levels = refl;
+        desk = nothing-open;
         deep = omega arith;
         steps = omega (arith, S .some);
         answers = omega arith;
@@ -103,7 +105,7 @@ module _ {arities : List ℕ} {limits : Limits} {l a : List ℕ} {to : Given} (S
     held-as : last ≡ held-by (found edition-one (v .answer)) a (counted nothing 1)
     held-as = told .1 ∙ rw (answer, is-one)
 
-    pub root-held : {noted : Record} → n ≡ Held noted → Running arities limits l last 0 noted to
+    pub root-held : {noted : Record} → n ≡ Held noted → Running arities limits l last 0 0 noted to
     unfolding note-by held-by fits found-size
     root-held {noted} h =
         by-test (leb (length (listed (found edition-one (v .answer)))) (length a - 0))

@@ -18,6 +18,7 @@ use Rattle.search.specs.State.{State, Node, dead, live}
 use Rattle.search.specs.Children.{children}
 use Rattle.search.specs.Run.{Visit, visit, dead-visit, stops, verdict, scan}
 use Rattle.turns.specs.Going.{Open, resumed, left, to-come, to-come-spent, to-come-dead, to-come-live, run-stops}
+use Rattle.turns.specs.Numbers.{drop-next}
 use Rattle.rows.specs.declared.bind.Made.{Made}
 use Rattle.children.specs.declared.next.Next.{Next}
 use Rattle.children.specs.declared.next.Next.the-variants.{Spent, Node as Found, Due}
@@ -25,10 +26,11 @@ use Rattle.solver.specs.declared.running.Record.{Record}
 use Rattle.solver.specs.declared.turn.Turn.the-variants.{End}
 use Rattle.solver.specs.Counts.{counted}
 use Rattle.children.specs.Next.{Tells, all-dead, then-live, then-due, Child}
-use Rattle.solver.specs.Passing.{drop-next, spent-stops, deep-stops}
+use Rattle.solver.specs.Desk.{Desk}
+use Rattle.solver.specs.Passing.{spent-stops, deep-stops}
 use Rattle.solver.specs.Path.{Rows, rows-kept}
 use Rattle.solver.specs.Result.{loan}
-use Rattle.solver.specs.Running.{Given, given, remains, Suits, Running, Turned, goes, ends, most-of, back-to, due-ending}
+use Rattle.solver.specs.Running.{Given, given, remains, Suits, scratch-of, Running, Turned, goes, ends, most-of, back-to, due-ending}
 use Rattle.solver.proofs.Standing.{rows-above, passed, most-few, most-left}
 
 -- ---- a run that ends
@@ -80,7 +82,7 @@ live-depth d st = refl
 pub suits-kept : {arities : List ℕ} {limits : Limits} {l r : List ℕ} → length r ≡ length l → Suits arities limits l → Suits arities limits r
 suits-kept e S = record { steps = S .steps; depth = S .depth; size = S .size; table = S .table; room = rw e (S .room); short = rw e (S .short) }
 
-module _ {arities : List ℕ} {limits : Limits} {l a : List ℕ} {level : ℕ} {r : Record} {to : Given} (R : Running arities limits l a level r to) where
+module _ {arities : List ℕ} {limits : Limits} {l a : List ℕ} {level shown : ℕ} {r : Record} {to : Given} (R : Running arities limits l a level shown r to) where
   abbrev pub stride : ℕ
   stride = limits .size + 8
 
@@ -109,16 +111,16 @@ module _ {arities : List ℕ} {limits : Limits} {l a : List ℕ} {level : ℕ} {
       go (then-live next rest h e M) = omega (arith, most-few limits level r)
 
   -- no child is left
-  pub turned-spent : {k : ℕ} {l₁ : List ℕ} → Told (Spent k) l₁ → Turned arities limits l₁ a level r to (back-to level (counted r k))
+  pub turned-spent : {k shown₁ : ℕ} {l₁ : List ℕ} → Told (Spent k) l₁ → Desk l₁ (limits .size) (scratch-of limits) (R .above) shown₁ → Turned arities limits l₁ a level r to (back-to level (counted r k)) shown₁
   unfolding back-to
-  turned-spent {k} {l₁} C = go (C .tells)
+  turned-spent {k} {shown₁} {l₁} C D = go (C .tells)
     where
-      up : (path : List Open) (n : ℕ) → length path ≡ n → Rows arities (limits .size) (r .visited) l path → n * stride ≤ level * stride + stride → n ≤ limits .depth + 1 → k ≤ limits .steps - r .visited
-          → level ≡ n → to ≡ given (counted r k) a (remains limits (counted r k) (length a) (to-come (limits .depth) path)) → Turned arities limits l₁ a level r to (back-to n (counted r k))
-      up [] n e Rs w d f same g =
+      up : (path : List Open) (n : ℕ) → length path ≡ n → Rows arities (limits .size) (r .visited) l path → Desk l₁ (limits .size) (scratch-of limits) path shown₁ → n * stride ≤ level * stride + stride → n ≤ limits .depth + 1 → k ≤ limits .steps - r .visited
+          → level ≡ n → to ≡ given (counted r k) a (remains limits (counted r k) (length a) (to-come (limits .depth) path)) → Turned arities limits l₁ a level r to (back-to n (counted r k)) shown₁
+      up [] n e Rs S w d f same g =
           rw (sym e) (ends (g ∙ ap (λ vs. given (counted r k) a (remains limits (counted r k) (length a) vs)) (nothing-to-come (limits .depth)) ∙ done-here limits (counted r k) a))
-      up (o ∷ path) zero e Rs w d f same g = absurd (omega arith)
-      up (o ∷ path) (suc n) e Rs w d f same g =
+      up (o ∷ path) zero e Rs S w d f same g = absurd (omega arith)
+      up (o ∷ path) (suc n) e Rs S w d f same g =
           rw (ne-eqb (suc n) 0 (λ z. omega arith))
           (goes {deeper = suc n - 1} {more = counted r k}
           (record {
@@ -127,6 +129,7 @@ module _ {arities : List ℕ} {limits : Limits} {l a : List ℕ} {level : ℕ} {
             above = path;
             rows = rows-kept l l₁ (level * stride + stride) (C .below) (C .long) {more = r .visited + k} (omega arith) (o ∷ path) (rw e w) Rs;
             levels = omega arith;
+            desk = S;
             deep = omega arith;
             steps = omega (arith, R .steps);
             answers = omega (arith, R .answers);
@@ -136,33 +139,33 @@ module _ {arities : List ℕ} {limits : Limits} {l a : List ℕ} {level : ℕ} {
           (omega arith))
 
       go : {l₂ : List ℕ} → Tells l (level * stride + stride) (limits .size) (drop (R .top .child) (children (R .top .state))) most l₂ (Spent k)
-          → Turned arities limits l₁ a level r to (back-to level (counted r k))
+          → Turned arities limits l₁ a level r to (back-to level (counted r k)) shown₁
       go (all-dead h e) =
           let p = passed R k h e in
-          up (R .above) level (R .levels) (rows-above (R .rows)) (omega arith) (omega (arith, R .deep)) (omega (arith, most-few limits level r)) refl
+          up (R .above) level (R .levels) (rows-above (R .rows)) D (omega arith) (omega (arith, R .deep)) (omega (arith, most-few limits level r)) refl
           (p .1
           ∙ ap (λ vs. given (counted r k) a (remains limits (counted r k) (length a) vs)) (to-come-spent (limits .depth) (R .top .state) (R .above) (R .top .child + k) (p .0)))
 
   -- a child is due that may not be opened
-  pub turned-due : {k : ℕ} {l₁ : List ℕ} → Told (Due k) l₁ → Turned arities limits l₁ a level r to (End (due-ending limits (counted r k)))
-  turned-due {k} {l₁} C = go (C .tells)
+  pub turned-due : {k shown₁ : ℕ} {l₁ : List ℕ} → Told (Due k) l₁ → Turned arities limits l₁ a level r to (End (due-ending limits (counted r k))) shown₁
+  turned-due {k} {shown₁} {l₁} C = go (C .tells)
     where
       at-node : (v : Visit) (vs : List Visit) → v .depth ≡ suc level → k ≡ most
-          → to ≡ given (counted r k) a (remains limits (counted r k) (length a) (v ∷ vs)) → Turned arities limits l₁ a level r to (End (due-ending limits (counted r k)))
+          → to ≡ given (counted r k) a (remains limits (counted r k) (length a) (v ∷ vs)) → Turned arities limits l₁ a level r to (End (due-ending limits (counted r k))) shown₁
       at-node v vs d h g = ends (g ∙ due-stops limits level r a k v vs d h (R .steps))
 
       by-node : (node : Node) (rest : List Node) → drop (R .top .child + k) (children (R .top .state)) ≡ node ∷ rest → k ≡ most
           → to ≡ given (counted r k) a (remains limits (counted r k) (length a) (to-come (limits .depth) (record { state = R .top .state; child = R .top .child + k } ∷ R .above)))
-          → Turned arities limits l₁ a level r to (End (due-ending limits (counted r k)))
+          → Turned arities limits l₁ a level r to (End (due-ending limits (counted r k))) shown₁
       by-node dead rest e h g =
           at-node (dead-visit (suc (length (R .above)))) _ (dead-depth _ ∙ ap suc (R .levels)) h
           (g ∙ ap (λ vs. given (counted r k) a (remains limits (counted r k) (length a) vs))
-          (to-come-dead (limits .depth) (R .top .state) (R .above) (R .top .child + k) rest e (drop-next (R .top .child + k) (children (R .top .state)) e) (omega (arith, R .levels, R .deep))))
+          (to-come-dead (limits .depth) (R .top .state) (R .above) (R .top .child + k) rest e (drop-next (R .top .child + k) (children (R .top .state)) _ _ e) (omega (arith, R .levels, R .deep))))
       by-node (live next) rest e h g =
           at-node (visit (suc (length (R .above))) next) _ (live-depth _ next ∙ ap suc (R .levels)) h
           (g ∙ ap (λ vs. given (counted r k) a (remains limits (counted r k) (length a) vs))
-          (to-come-live (limits .depth) (R .top .state) (R .above) (R .top .child + k) next rest e (drop-next (R .top .child + k) (children (R .top .state)) e) (omega (arith, R .levels, R .deep))))
+          (to-come-live (limits .depth) (R .top .state) (R .above) (R .top .child + k) next rest e (drop-next (R .top .child + k) (children (R .top .state)) _ _ e) (omega (arith, R .levels, R .deep))))
 
       go : {l₂ : List ℕ} → Tells l (level * stride + stride) (limits .size) (drop (R .top .child) (children (R .top .state))) most l₂ (Due k)
-          → Turned arities limits l₁ a level r to (End (due-ending limits (counted r k)))
+          → Turned arities limits l₁ a level r to (End (due-ending limits (counted r k))) shown₁
       go (then-due node rest h e) = let p = passed R k (omega arith) e in by-node node rest (p .0) h (p .1)

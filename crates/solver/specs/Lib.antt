@@ -1,4 +1,5 @@
 pub mod Counts
+pub mod Desk
 pub mod Number
 pub mod Passing
 pub mod Path

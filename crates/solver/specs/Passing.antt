@@ -16,6 +16,7 @@ use Rattle.search.specs.Children.{children}
 use Rattle.search.specs.Run.{Visit, dead-visit, Loan, found, found-size, stops, overflows, ends, verdict, scan}
 use Rattle.promises.specs.Runs.Verdicts.{Allows, allowed}
 use Rattle.turns.specs.Going.{resumed, left, Open, to-come, to-come-dead, run-goes-on}
+use Rattle.turns.specs.Numbers.{drop-next}
 use Rattle.children.specs.Next.{dead-ends}
 
 unfoldable pub dead-visits : ℕ → ℕ → List Visit
@@ -24,14 +25,8 @@ dead-visits d (suc k) = dead-visit d ∷ dead-visits d k
 
 -- ---- the visits still to come
 
-pub drop-next : (c : ℕ) (ns : List Node) {n : Node} {rest : List Node} → drop c ns ≡ n ∷ rest → drop (suc c) ns ≡ rest
-drop-next zero [] e = let z : _≡_ {A = ℕ} 0 1 = cc in absurd (omega arith)
-drop-next zero (m ∷ ns) e = cc
-drop-next (suc c) [] e = let z : _≡_ {A = ℕ} 0 1 = cc in absurd (omega arith)
-drop-next (suc c) (m ∷ ns) e = drop-next c ns e
-
 pub drop-after : (c : ℕ) (ns : List Node) {n : Node} {rest : List Node} → drop c ns ≡ n ∷ rest → drop (c + 1) ns ≡ rest
-drop-after c ns e = rw add-one (drop-next c ns e)
+drop-after c ns e = rw add-one (drop-next c ns _ _ e)
 
 module _ (deepest : ℕ) (st : State) (path : List Open) (h : length path ≤ deepest) where
   pub to-come-deads : (c k : ℕ) {rest : List Node} → drop c (children st) ≡ dead-ends k ++ rest
@@ -40,7 +35,7 @@ module _ (deepest : ℕ) (st : State) (path : List Open) (h : length path ≤ de
   unfolding dead-ends dead-visits
   to-come-deads c zero e = rw add-zero (e, refl)
   to-come-deads c (suc k) {rest} e =
-      let n = drop-next c (children st) e in
+      let n = drop-next c (children st) _ _ e in
       let s = to-come-deads (suc c) k n in
       let z : suc c + k ≡ c + suc k = omega arith in
       rw (← z) (s .0, to-come-dead deepest st path c (dead-ends k ++ rest) e n h ∙ ap (λ vs. dead-visit (suc (length path)) ∷ vs) (s .1))

@@ -1,5 +1,5 @@
--- A search that goes on: the rows of the room hold a path, and what the whole run gives is what is counted and listed so far, and the run over the visits
--- still to come. What one turn makes of it.
+-- A search that goes on: the rows of the room hold a path, a split of one of them may stand open in scratch, and what the whole run gives is what is
+-- counted and listed so far, and the run over the visits still to come. What one turn makes of it.
 use Prim.Native.Nat.{ℕ, _+_, _*_, _-_, _≤_, _<_, _^_}
 use mathlib.Core.Path.{_≡_}
 use mathlib.Core.Bool.{cond}
@@ -23,6 +23,7 @@ use Rattle.solver.specs.declared.turn.Ending.{Ending}
 use Rattle.solver.specs.declared.turn.Turn.{Turn}
 use Rattle.solver.specs.declared.turn.Turn.the-variants.{At, End}
 use Rattle.solver.specs.Counts.{counted, answer-in, note-by, held-by, Notable}
+use Rattle.solver.specs.Desk.{Desk}
 use Rattle.solver.specs.Number.{number-words}
 use Rattle.solver.specs.Path.{Rows}
 use Rattle.solver.specs.Result.{loan, needed}
@@ -55,13 +56,18 @@ pub record Suits (arities : List ℕ) (limits : Limits) (l : List ℕ) : Type 0 
   pub room : needed limits ≤ length l
   pub short : length l < 2 ^ 32
 
-pub record Running (arities : List ℕ) (limits : Limits) (l a : List ℕ) (level : ℕ) (r : Record) (to : Given) : Type 0 where
+-- where scratch begins, after the rows of the path
+abbrev pub scratch-of : Limits → ℕ
+scratch-of limits = (limits .depth + 1) * (limits .size + 8)
+
+pub record Running (arities : List ℕ) (limits : Limits) (l a : List ℕ) (level shown : ℕ) (r : Record) (to : Given) : Type 0 where
   pub suits : Suits arities limits l
   -- the deepest open state, and the others
   pub top : Open
   pub above : List Open
   pub rows : Rows arities (limits .size) (r .visited) l (top ∷ above)
   pub levels : length above ≡ level
+  pub desk : Desk l (limits .size) (scratch-of limits) (top ∷ above) shown
   pub deep : level ≤ limits .depth
   pub steps : r .visited ≤ limits .steps
   pub answers : r .answers ≤ r .visited
@@ -69,10 +75,10 @@ pub record Running (arities : List ℕ) (limits : Limits) (l a : List ℕ) (leve
   pub gives : to ≡ given r a (remains limits r (length a) (to-come (limits .depth) (top ∷ above)))
 
 -- after a turn: the search goes on, with less before it, or the run has ended
-pub data Turned (arities : List ℕ) (limits : Limits) (l a : List ℕ) (level : ℕ) (r : Record) (to : Given) : Turn → Type 0 where
-  goes : {deeper : ℕ} {more : Record} → Running arities limits l a deeper more to → deeper + (r .visited + r .visited) < level + (more .visited + more .visited)
-      → Turned arities limits l a level r to (At deeper more)
-  ends : {e : Ending} → to ≡ record { ending = e; answers = a } → Turned arities limits l a level r to (End e)
+pub data Turned (arities : List ℕ) (limits : Limits) (l a : List ℕ) (level : ℕ) (r : Record) (to : Given) : Turn → (shown : ℕ) → Type 0 where
+  goes : {deeper shown : ℕ} {more : Record} → Running arities limits l a deeper shown more to → deeper + (r .visited + r .visited) < level + (more .visited + more .visited)
+      → Turned arities limits l a level r to (At deeper more) shown
+  ends : {e : Ending} {shown : ℕ} → to ≡ record { ending = e; answers = a } → Turned arities limits l a level r to (End e) shown
 
 -- ---- the parts of a turn
 

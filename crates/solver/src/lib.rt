@@ -4,7 +4,7 @@
 //     path       the rows of the path
 //     turn       one turn, and the loop
 //
-// In specs/, `Result` says what a run gives for any input; `Running` is the loop's invariant, over `Path` and `Counts`; `Passing` has the laws of
+// In specs/, `Result` says what a run gives for any input; `Running` is the loop's invariant, over `Path`, `Desk` and `Counts`; `Passing` has the laws of
 // dead ends passed at once.
 ghost use mathlib.Core.Path.{_≡_};
 ghost use lib.ListN.{length};

@@ -1,8 +1,13 @@
-// One turn of the search: the next child of the deepest row is looked for, and opened. Then the loop over turns.
+// One turn of the search: the next child of the deepest row is looked for, and opened. Then the loop over turns. A split that was opened stands open in
+// scratch until another one is, and its next child only advances the picks.
 ghost use mathlib.Core.Path.{_≡_};
+ghost use mathlib.Core.Bool.{true, cond};
 ghost use Prim.Native.Nat.{_+_, _*_, _≤_};
 ghost use lib.ListN.{length};
+ghost use Rattle.search.specs.State.{State};
 ghost use Rattle.rows.specs.declared.bind.Made.the-variants as kinds;
+ghost use Rattle.children.specs.Shown.{Looks};
+ghost use Rattle.solver.specs.Desk.{Looking};
 ghost use Rattle.solver.specs.Running.{Given, Running, Turned, Ends, OpenParts, most-of, back-to, due-ending, node-turn, node-room, node-answers};
 use crate::path::number_in;
 use crate::path::set_number;
@@ -10,8 +15,10 @@ use crate::running::Noted;
 use crate::running::Record;
 use crate::running::note;
 use crate::running::with_nodes;
+use children::next::Looked;
 use children::next::Next;
 use children::next_child;
+use children::next_pick;
 use rows::bind::Made;
 use rows::header::HEADER;
 use search::ends::End;
@@ -130,7 +137,48 @@ fn meet(
     }
 }
 
-// One turn, from the deepest row.
+// A turn that was taken, and which split stands open in scratch after it: 0 where none does, else one more than the level of its row.
+pub struct Taken {
+    pub turn: Turn,
+    pub shown: usize,
+}
+
+// What is told of the children of the row at `at`, of this level, from `number` on: where its split stands open, only the picks go on.
+fn look(
+    arities: &[u8],
+    room: &mut [u16],
+    at: usize,
+    level: usize,
+    number: usize,
+    size: usize,
+    scratch: usize,
+    most: usize,
+    shown: usize,
+) -> Looked
+    requires { ⌜ ((st : State) × Looking (now arities) (now room) at level number size scratch most shown st) ⌝ }
+    ensures { λ r. ⌜ ((st : State) → Looking (now (arities .entry)) (now (room .entry)) at level number size scratch most shown st → Looks (now (room .entry)) at number size scratch most st r (now (room .exit))) ⌝ }
+    ensures { λ r. ⌜ (shown ≡ level + 1 → r .opens ≡ true) ⌝ }
+{
+    if shown == level + 1 {
+        return Looked {
+            next: next_pick(arities, room, at, size, scratch, most),
+            opens: true,
+        };
+    }
+    next_child(arities, room, at, number, size, scratch, most)
+}
+
+// Which split stands open after a look: the one here where the row's was opened, else the one that stood open before.
+fn shown_then(opens: bool, here: usize, shown: usize) -> usize
+    ensures { λ r. ⌜ r ≡ cond opens here shown ⌝ }
+{
+    if opens {
+        return here;
+    }
+    shown
+}
+
+// One turn, from the deepest row. A split whose children are at their end stands open no more.
 pub fn take_turn(
     arities: &[u8],
     limits: Limits,
@@ -138,9 +186,10 @@ pub fn take_turn(
     room: &mut [u16],
     level: usize,
     counts: Record,
-) -> Turn
-    requires { ⌜ ((to : Given) × Running (now arities) limits (now room) (now answers) level counts to) ⌝ }
-    ensures { λ r. ⌜ ((to : Given) → Running (now (arities .entry)) limits (now (room .entry)) (now (answers .entry)) level counts to → Turned (now (arities .entry)) limits (now (room .exit)) (now (answers .exit)) level counts to r) ⌝ }
+    shown: usize,
+) -> Taken
+    requires { ⌜ ((to : Given) × Running (now arities) limits (now room) (now answers) level shown counts to) ⌝ }
+    ensures { λ r. ⌜ ((to : Given) → Running (now (arities .entry)) limits (now (room .entry)) (now (answers .entry)) level shown counts to → Turned (now (arities .entry)) limits (now (room .exit)) (now (answers .exit)) level counts to (r .turn) (r .shown)) ⌝ }
 {
     let size = limits.size;
     let stride = size + HEADER;
@@ -150,18 +199,29 @@ pub fn take_turn(
     let high = at + 7;
     let number = number_in(&room[low..high]);
     let most = most_passed(limits, level, counts);
-    match next_child(arities, room, at, number, size, scratch, most) {
-        Next::Spent(k) => back(level, with_nodes(counts, k as u64)),
-        Next::Due(k) => Turn::End(due(limits, with_nodes(counts, k as u64))),
-        Next::Node(k, node) => meet(
-            limits,
-            answers,
-            room,
-            level,
-            with_nodes(counts, k as u64),
-            number + k,
-            node,
-        ),
+    let looked = look(arities, room, at, level, number, size, scratch, most, shown);
+    let next = looked.next;
+    match next {
+        Next::Spent(k) => Taken {
+            turn: back(level, with_nodes(counts, k as u64)),
+            shown: shown_then(looked.opens, 0, shown),
+        },
+        Next::Due(k) => Taken {
+            turn: Turn::End(due(limits, with_nodes(counts, k as u64))),
+            shown,
+        },
+        Next::Node(k, node) => Taken {
+            turn: meet(
+                limits,
+                answers,
+                room,
+                level,
+                with_nodes(counts, k as u64),
+                number + k,
+                node,
+            ),
+            shown: shown_then(looked.opens, level + 1, shown),
+        },
     }
 }
 
@@ -173,13 +233,17 @@ pub fn search_on(
     room: &mut [u16],
     first: Record,
 ) -> Ending
-    requires { ⌜ ((to : Given) × Running (now arities) limits (now room) (now answers) 0 first to) ⌝ }
-    ensures { λ r. ⌜ ((to : Given) → Running (now (arities .entry)) limits (now (room .entry)) (now (answers .entry)) 0 first to → Ends to r (now (answers .exit))) ⌝ }
+    requires { ⌜ ((to : Given) × Running (now arities) limits (now room) (now answers) 0 0 first to) ⌝ }
+    ensures { λ r. ⌜ ((to : Given) → Running (now (arities .entry)) limits (now (room .entry)) (now (answers .entry)) 0 0 first to → Ends to r (now (answers .exit))) ⌝ }
 {
     let mut level = 0;
     let mut counts = first;
+    let mut shown = 0;
     loop {
-        match take_turn(arities, limits, answers, room, level, counts) {
+        let taken = take_turn(arities, limits, answers, room, level, counts, shown);
+        shown = taken.shown;
+        let turn = taken.turn;
+        match turn {
             Turn::At(next, more) => {
                 level = next;
                 counts = more;

@@ -1,38 +1,37 @@
 -- A child that binds an unknown: its new equations are written, then the rest of its parent's row.
-use Prim.Native.Nat.{ℕ, zero, suc, _+_, _-_, _*_, _<_, _≤_, _^_}
-use mathlib.Core.Path.{_≡_, refl, ap, sym, _∙_}
+use Prim.Native.Nat.{ℕ, _+_, _-_, _<_, _≤_}
+use mathlib.Core.Path.{_≡_, ap, sym, _∙_}
 use mathlib.Core.Bool.{Bool, true, false}
-use mathlib.Core.List.{List, [], _∷_, _++_, map, append-assoc}
+use mathlib.Core.List.{List, _++_, map}
 use native.Mathlib.Omega.{arith}
 use lib.ListN.{length, length-append}
-use Rattle.room.specs.Room.{seg, put, Within, length-put, seg-put-same}
-use Rattle.room.specs.Parts.{Apart, apart-part, seg-put}
+use Rattle.room.specs.Room.{seg, seg-put-same}
+use Rattle.room.specs.Parts.{apart-part, seg-put}
 use Rattle.room.specs.Replaced.{replaced, replaced-append}
 use Rattle.room.specs.Fitting.{told-full}
-use Rattle.room.specs.declared.Copied.{Copied}
 use Rattle.room.specs.declared.Copied.the-variants.{Done, Full}
 use Rattle.terms.specs.Bounds.{edition-one, edition-one-proper}
 use Rattle.terms.specs.Term.{Term, words, occurs}
 use Rattle.terms.specs.Formed.{Equation}
-use Rattle.search.specs.State.{State, Node, live, size-equations, state-size}
+use Rattle.search.specs.State.{State, state-size}
 use Rattle.search.specs.Children.{bound, bound-state, replace-in, released, entries}
 use Rattle.rows.specs.declared.bind.Rest.{Rest}
 use Rattle.rows.specs.declared.bind.Made.{Made}
-use Rattle.rows.specs.declared.bind.Made.the-variants.{Dead, Large, Live}
-use Rattle.rows.specs.Bind.{BindParts, FinishParts, pending-piece, pile-piece, bound-piece}
+use Rattle.rows.specs.declared.bind.Made.the-variants.{Dead, Large}
+use Rattle.rows.specs.Bind.{FinishParts, pending-piece, pile-piece, bound-piece}
 use Rattle.rows.specs.Flat.{holds, holds-words}
 use Rattle.rows.specs.Header.{header-of}
 use Rattle.rows.specs.Finished.{Finished, bound-header}
 use Rattle.rows.specs.Wrote.{Wrote, wrote-length, done-fits, done-length, done-room}
 use Rattle.rows.specs.States.{pending-words, length-pending, pending-append, replaced-pending}
-use Rattle.rows.specs.Row.{Rested, Makes}
+use Rattle.rows.specs.Row.{Makes}
 use Rattle.rows.specs.Child.{Stands, ahead, finish-makes}
 use Rattle.splits.specs.declared.sides.Sides.{Sides}
 use Rattle.splits.specs.Gathered.{equations-piece, MeetParts}
-use Rattle.splits.specs.Opened.{Parent, Opened, Elsewhere, elsewhere-put, opened-after, news}
-use Rattle.splits.specs.Bound.{Bound, Target, bound-child, BoundMade}
+use Rattle.splits.specs.Opened.{Parent, Opened, opened-after, news}
+use Rattle.splits.specs.Bound.{Bound, bound-child, BoundMade}
 use Rattle.splits.proofs.Opening.{Numbers, numbers, equation-parts, equations-is}
-use Rattle.splits.proofs.Making.{Below, below-same, below-put, makes-before, makes-dead, makes-large, dead-only, live-not-dead}
+use Rattle.splits.proofs.Making.{below-same, below-put, makes-before, makes-dead, makes-large, wrote-elsewhere}
 
 -- the new equations alone are no larger than the child
 pub news-size : (x : ℕ) → x < 1000 → (t : Term) (ds : List Equation) (next : ℕ) (st : State)
@@ -89,12 +88,7 @@ module _ {arities l : List ℕ} {from : ℕ} {rest : Rest} {sides : Sides} {x by
 
   module _ {w : ℕ} {r : List ℕ} (W : Wrote l (to + 8) lent piece (Done w) r) where
     after : Opened arities r from rest sides lent (B .named) scratch p
-    after =
-        let T = B .target in
-        opened-after
-        (elsewhere-put l (W .out) (to + 8) from lent scratch (W .room)
-        (apart-part (T .low-apart) (omega arith) (omega arith) (omega arith) (omega (arith, W .within)))
-        (apart-part (T .high-apart) (omega arith) (omega arith) (omega arith) (omega (arith, W .within)))) (B .opened)
+    after = opened-after (wrote-elsewhere (B .target) W) (B .opened)
 
     pub finish-parts : FinishParts r rest by m to w lent x next
     finish-parts =
@@ -134,11 +128,6 @@ module _ {arities l : List ℕ} {from : ℕ} {rest : Rest} {sides : Sides} {x by
         rw (← k, done-room W) (seg-put-same piece l (to + 8) (omega (arith, T .to-within, done-fits W))) ∙ piece-is in
         makes-before (below-put l (W .out) (to + 8) (W .room) (omega arith))
         (finish-makes (S .worded) (S .rested) (S .formed-pile) there (B .name-small) (rw e at finish-parts) (news p) new (rw e at F) (B .few))
-
-  -- it is no dead end
-  pub bound-kept : {a : Made} {r : List ℕ} → BoundMade arities l from rest sides x by m to lent next scratch a r → a ≡ Dead → r ≡ l
-  unfolding bound-child
-  bound-kept M e = absurd (live-not-dead (dead-only (bound-child p next name value) (M .makes p name value B) e))
 
   -- ---- or a dead end
 

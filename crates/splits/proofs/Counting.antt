@@ -2,9 +2,9 @@
 use Prim.Native.Nat.{ℕ, zero, suc, _+_, _-_, _*_, _/_, _%_, _<_, _≤_}
 use mathlib.Core.Path.{_≡_, refl, sym, ap, _∙_}
 use mathlib.Core.List.{List, [], _∷_, _++_, append-assoc, append-nil}
-use mathlib.Core.Bool.{Bool, true, false, true≢false, false≢true}
+use mathlib.Core.Bool.{true, false, true≢false, false≢true}
 use native.Mathlib.Omega.{arith}
-use native.Mathlib.Nat.{zero-mul, suc-mul, one-mul, mul-one, add-mul, mul-assoc, div-add-mod', mod-lt}
+use native.Mathlib.Nat.{zero-mul, suc-mul, mul-one, add-mul, mul-assoc, div-add-mod', mod-lt}
 use lib.ListN.{length, getD, set}
 use lib.Seq.{getD-at, take-at}
 use Rattle.room.specs.Room.{seg, put, length-put, put-nil, put-put, put-seg, set-put-before, take-seg, getD-seg}

@@ -1,5 +1,5 @@
 -- Both tails are the same unknown X: the pile's new entry X = {T,U|X} is laid out, then the child's row.
-use Prim.Native.Nat.{ℕ, zero, suc, _+_, _-_, _*_, _<_, _≤_, _^_}
+use Prim.Native.Nat.{ℕ, _+_, _-_, _<_, _≤_}
 use mathlib.Core.Path.{_≡_, refl, ap, sym, _∙_}
 use mathlib.Core.List.{List, [], _∷_, _++_, append-assoc, append-nil}
 use mathlib.Core.Bool.{Bool, true, false}
@@ -7,18 +7,17 @@ use native.Mathlib.Omega.{arith}
 use native.Mathlib.Nat.{zero-add}
 use lib.Dec.{eqb}
 use lib.ListN.{length, getD, set, length-append}
-use Rattle.room.specs.Room.{seg, put, Within, length-put, put-one, put-put, put-more, seg-zero, seg-seg, seg-put-same}
+use Rattle.room.specs.Room.{seg, put, length-put, put-one, put-put, put-more, seg-zero, seg-seg, seg-put-same}
 use Rattle.room.specs.Parts.{Apart, earlier, later, seg-put}
 use Rattle.terms.specs.Bounds.{edition-one}
-use Rattle.terms.specs.Term.{Term, unknown, words, kernel, over}
+use Rattle.terms.specs.Term.{Term, words, kernel, over}
 use Rattle.terms.specs.Shape.{is-unknown, number}
-use Rattle.terms.specs.Answers.{Named}
 use Rattle.search.specs.State.{State, live, pend, piled}
 use Rattle.search.specs.Children.{settle, pile-up}
 use Rattle.rows.specs.declared.bind.Rest.{Rest}
 use Rattle.rows.specs.Pile.{pile-words}
 use Rattle.rows.specs.Members.{member-words, members-append, words-over}
-use Rattle.rows.specs.Child.{Piled, extended}
+use Rattle.rows.specs.Child.{extended}
 use Rattle.terms.specs.Formed.{Equation}
 use Rattle.search.specs.declared.steps.Tails.the-variants.{Same}
 use Rattle.search.specs.Classify.{tails-by, tails}
@@ -32,13 +31,13 @@ use Rattle.rows.specs.Keep.{kept-piece, kept-header}
 use Rattle.rows.specs.States.{pending-words}
 use Rattle.rows.specs.Row.{Makes}
 use Rattle.splits.specs.Due.{Due, child, child-is}
-use Rattle.splits.proofs.Making.{Below, makes-before}
+use Rattle.splits.proofs.Making.{Below, makes-before, due-elsewhere}
 use Rattle.splits.proofs.Keeping.{kept-full, kept-made}
 use Rattle.splits.specs.declared.sides.Sides.{Sides}
 use Rattle.splits.specs.Gathered.{joining-piece, TailParts}
-use Rattle.splits.specs.Opened.{Parent, Opened, Elsewhere, elsewhere-put, opened-after, to-left, to-right, news}
+use Rattle.splits.specs.Opened.{Parent, Opened, Elsewhere, elsewhere-next, elsewhere-put, opened-after, to-left, to-right, news}
 use Rattle.splits.specs.Kept.{entry-of, fourth, Entry, EntryLaid}
-use Rattle.splits.proofs.Opening.{Numbers, numbers, s-stands, s-noted, r-noted, left-parts, right-parts, left-is, right-is}
+use Rattle.splits.proofs.Opening.{numbers, s-stands, s-noted, r-noted, left-parts, right-parts, left-is, right-is}
 use Rattle.splits.proofs.Tailing.{is-the-unknown, unknown-word}
 
 member-words-none : (ms : List Term) → length (member-words edition-one ms) ≡ 0 → ms ≡ []
@@ -193,7 +192,7 @@ module _ {arities l : List ℕ} {from : ℕ} {rest : Rest} {sides : Sides} {to l
   the-entry = L .laid arities rest next p (D .opened)
 
   pub due-laid : Due arities r from rest sides to lent next scratch p
-  due-laid = record { opened = opened-after (the-entry .elsewhere) (D .opened); after = D .after; before = D .before }
+  due-laid = due-elsewhere (the-entry .elsewhere) D
 
   below-laid : Below l r to
   below-laid =
@@ -216,10 +215,13 @@ module _ {arities l : List ℕ} {from : ℕ} {rest : Rest} {sides : Sides} {to l
   same-is kind = child-is p kind ∙ ap live (piled-up (kernel (p .t)) (to-right p ++ to-left p) (p .st) (news p) next (D .opened .next-is))
 
   module _ (kind : tails (p .t) (p .u) ≡ Same) where
-    pub same-full : {q : List ℕ} → Wrote r (to + 8) lent (pending-words edition-one (news p)) Full q → Makes edition-one l to lent (child p) Large q
-    same-full w = rw (same-is kind) (makes-before below-laid (kept-full due-laid (news p) (entry-of (to-right p ++ to-left p) (kernel (p .t))) w))
+    pub same-full : {q : List ℕ} → Wrote r (to + 8) lent (pending-words edition-one (news p)) Full q → Makes edition-one l to lent (child p) Large q × Elsewhere l q from lent scratch
+    same-full w =
+        let M = kept-full due-laid (news p) (entry-of (to-right p ++ to-left p) (kernel (p .t))) w in
+        rw (same-is kind) (makes-before below-laid (M .0), elsewhere-next (the-entry .elsewhere) (M .1))
 
     pub same-made : {w : ℕ} {q : List ℕ} → Wrote r (to + 8) lent (pending-words edition-one (news p)) (Done w) q → {b : Made} {o : List ℕ}
-        → Finished q to w lent (kept-piece q rest (fourth lent scratch) a) (header-of (kept-header rest w a next)) b o → Makes edition-one l to lent (child p) b o
+        → Finished q to w lent (kept-piece q rest (fourth lent scratch) a) (header-of (kept-header rest w a next)) b o → Makes edition-one l to lent (child p) b o × Elsewhere l o from lent scratch
     same-made W F =
-        rw (same-is kind) (makes-before below-laid (kept-made due-laid (news p) W entry-within entry-apart (the-entry .piled (same-kind (p .t) (p .u) kind)) F))
+        let M = kept-made due-laid (news p) W entry-within entry-apart (the-entry .piled (same-kind (p .t) (p .u) kind)) F in
+        rw (same-is kind) (makes-before below-laid (M .0), elsewhere-next (the-entry .elsewhere) (M .1))

@@ -1,15 +1,14 @@
 -- The equations of the t's picks, then those of the u's.
-use Prim.Native.Nat.{ℕ, suc, _+_, _-_, _<_, _≤_}
-use mathlib.Core.Path.{_≡_, refl, sym, ap, _∙_}
-use mathlib.Core.List.{List, [], _∷_, _++_}
-use mathlib.Core.Bool.{Bool, true, false}
+use Prim.Native.Nat.{ℕ, _+_, _-_, _≤_}
+use mathlib.Core.List.{List}
+use mathlib.Core.Bool.{true, false}
 use native.Mathlib.Omega.{arith}
-use lib.ListN.{length, getD}
-use Rattle.room.specs.Room.{seg, put}
+use Rattle.room.specs.Room.{seg}
 use Rattle.room.specs.Replaced.{replaced, replaced-append}
 use Rattle.room.specs.declared.Copied.{Copied}
 use Rattle.room.specs.declared.Copied.the-variants.{Done, Full}
-use Rattle.rows.specs.Wrote.{Wrote, further, wrote-more, full-more, done-fits, done-length}
+use Rattle.room.specs.Fitting.{further}
+use Rattle.rows.specs.Wrote.{Wrote, wrote-more, full-more, done-fits, done-length}
 use Rattle.splits.specs.Gathered.{meeting-piece, equations-piece, MeetParts}
 use Rattle.splits.proofs.Frame.{meet-after, value-after, meeting-after}
 

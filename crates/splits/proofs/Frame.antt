@@ -1,16 +1,16 @@
 -- What is written elsewhere changes nothing of what a child's picks gather.
 use Prim.Native.Nat.{ℕ, zero, suc, _+_, _-_, _<_, _≤_}
-use mathlib.Core.Path.{_≡_, refl, sym, ap, _∙_}
-use mathlib.Core.List.{List, [], _∷_, _++_}
-use mathlib.Core.Bool.{Bool, true, false, cond}
+use mathlib.Core.Path.{_≡_, refl, ap, _∙_}
+use mathlib.Core.List.{List}
+use mathlib.Core.Bool.{Bool}
 use native.Mathlib.Omega.{arith}
 use lib.Dec.{ltb}
 use lib.ListN.{length, getD}
 use borrow.Author.Tests.{ltb-true}
-use Rattle.room.specs.Room.{seg, put, Within, length-put}
+use Rattle.room.specs.Room.{seg, put, length-put}
 use Rattle.room.specs.Parts.{Apart, apart-part, getD-put, seg-put}
 use Rattle.room.specs.Replaced.{by-test}
-use Rattle.splits.specs.Gathered.{gathered, member-piece, meets-piece, meeting-piece, equations-piece, Noted, MeetParts}
+use Rattle.splits.specs.Gathered.{gathered, meets-piece, meeting-piece, Noted, MeetParts}
 use Rattle.splits.proofs.Meeting.{own-parts, other-parts, same-member}
 
 -- the same parts, one after the other

@@ -1,15 +1,15 @@
 -- The loop over the members that join a tail: some are looked at, and those that join are copied.
-use Prim.Native.Nat.{ℕ, suc, _+_, _-_, _<_, _≤_}
+use Prim.Native.Nat.{ℕ, _+_, _-_, _<_, _≤_}
 use mathlib.Core.Path.{_≡_, refl, sym, ap, _∙_}
-use mathlib.Core.List.{List, [], _∷_, _++_, append-assoc, append-nil}
-use mathlib.Core.Bool.{Bool, true, false}
+use mathlib.Core.List.{List, [], _++_, append-assoc, append-nil}
+use mathlib.Core.Bool.{true, false}
 use native.Mathlib.Omega.{arith}
 use lib.Dec.{ltb}
 use lib.ListN.{length, getD, length-append}
 use borrow.Author.Tests.{lt-ltb, le-ltb}
 use Rattle.room.specs.Room.{seg, put, length-put, length-seg, put-nil, put-put}
 use Rattle.room.specs.Parts.{CopyParts, apart-part, getD-put, seg-put}
-use Rattle.splits.specs.Gathered.{gathered, gathered-none, gathered-next, marked-piece, joins-piece, joining-piece, TailParts, Noted}
+use Rattle.splits.specs.Gathered.{gathered, gathered-none, gathered-next, marked-piece, joins-piece, joining-piece, TailParts}
 
 pub record Joining (r₀ : List ℕ) (body places picks n others to : ℕ) (r : List ℕ) (i written : ℕ) : Type 0 where
   pub parts : TailParts r₀ body places picks n to

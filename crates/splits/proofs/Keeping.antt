@@ -1,5 +1,5 @@
 -- A child that binds nothing: its new equations are written as they are, then the rest of its parent's row.
-use Prim.Native.Nat.{ℕ, zero, suc, _+_, _-_, _*_, _<_, _≤_, _^_}
+use Prim.Native.Nat.{ℕ, _+_, _-_, _<_, _≤_}
 use mathlib.Core.Path.{_≡_, refl, ap, sym, _∙_}
 use mathlib.Core.List.{List, [], _∷_, _++_, append-assoc, append-nil}
 use native.Mathlib.Omega.{arith}
@@ -8,46 +8,37 @@ use lib.ListN.{length, getD, length-append}
 use borrow.Author.Tests.{eqb-true}
 use Rattle.room.specs.Room.{seg, put, Within, length-put, length-seg, put-nil, put-put, seg-put-same, seg-cons, seg-zero}
 use Rattle.room.specs.Parts.{Apart, CopyParts, earlier, later, apart-part, seg-put}
-use Rattle.room.specs.Replaced.{replaced, image, replaced-nil, replaced-cons, image-same, image-other, by-test}
-use Rattle.room.specs.Fitting.{told-full, told-of-le, told-of-lt}
+use Rattle.room.specs.Replaced.{replaced, image, by-test}
+use Rattle.room.specs.Fitting.{told-full, told-of-le, told-of-lt, further}
 use Rattle.room.specs.declared.Copied.{Copied}
 use Rattle.room.specs.declared.Copied.the-variants.{Done, Full}
 use Rattle.terms.specs.Bounds.{edition-one}
-use Rattle.terms.specs.Term.{Term, words, kernel}
+use Rattle.terms.specs.Term.{words, kernel}
 use Rattle.terms.specs.Formed.{Equation, sides, row}
 use Rattle.terms.specs.Answers.{Named}
-use Rattle.search.specs.declared.steps.Tails.the-variants.{Neither, Same}
-use Rattle.search.specs.State.{State, Node, dead, live, pend, size-equations, state-size}
+use Rattle.search.specs.declared.steps.Tails.the-variants.{Neither}
+use Rattle.search.specs.State.{State, live, pend, state-size}
 use Rattle.search.specs.Classify.{tails}
 use Rattle.search.specs.Children.{settle}
 use Rattle.rows.specs.declared.bind.Rest.{Rest}
 use Rattle.rows.specs.declared.bind.Made.{Made}
-use Rattle.rows.specs.declared.bind.Made.the-variants.{Large, Live}
-use Rattle.rows.specs.Bind.{BindParts, FinishParts}
+use Rattle.rows.specs.declared.bind.Made.the-variants.{Large}
+use Rattle.rows.specs.Bind.{FinishParts}
 use Rattle.rows.specs.Header.{header-of}
 use Rattle.rows.specs.Finished.{Finished}
 use Rattle.rows.specs.Keep.{kept-piece, kept-header}
 use Rattle.rows.specs.Pile.{pile-words}
-use Rattle.rows.specs.Wrote.{Wrote, further, wrote-length, wrote-more, full-more, done-fits, done-length, done-room}
+use Rattle.rows.specs.Wrote.{Wrote, wrote-length, wrote-more, full-more, done-fits, done-length, done-room}
 use Rattle.rows.specs.States.{pending-words, length-pending, pending-append}
-use Rattle.rows.specs.Row.{Rested, Makes}
+use Rattle.rows.specs.Row.{Makes}
 use Rattle.rows.specs.Child.{extended, Piled, keep-makes}
 use Rattle.splits.specs.declared.sides.Sides.{Sides}
 use Rattle.splits.specs.Gathered.{equations-piece, MeetParts}
-use Rattle.splits.specs.Opened.{Parent, Opened, Elsewhere, elsewhere-put, opened-after, to-left, to-right, news}
+use Rattle.splits.specs.Opened.{Parent, Opened, Elsewhere, news}
 use Rattle.splits.specs.Due.{Due, child, child-is}
 use Rattle.splits.specs.Kept.{tails-piece, TailsParts}
-use Rattle.splits.proofs.Opening.{Numbers, numbers, equation-parts, equations-is, s-stands, r-stands}
-use Rattle.splits.proofs.Making.{Below, below-put, makes-before, makes-large, live-not-dead}
-
--- no such child is dead
-pub neither-live : (p : Parent) → tails (p .t) (p .u) ≡ Neither → child p ≡ dead → ⊥
-unfolding settle
-neither-live p k e = live-not-dead (sym (child-is p k) ∙ e)
-
-pub same-live : (p : Parent) → tails (p .t) (p .u) ≡ Same → child p ≡ dead → ⊥
-unfolding settle
-same-live p k e = live-not-dead (sym (child-is p k) ∙ e)
+use Rattle.splits.proofs.Opening.{numbers, equation-parts, equations-is, s-stands, r-stands}
+use Rattle.splits.proofs.Making.{below-put, makes-before, makes-large, wrote-elsewhere, row-elsewhere, due-target, due-elsewhere}
 
 -- a word that stands for itself
 pub replaced-self : (x : ℕ) (ws : List ℕ) → replaced x (x ∷ []) ws ≡ ws
@@ -145,19 +136,17 @@ module _ {arities l : List ℕ} {from : ℕ} {rest : Rest} {sides : Sides} {to l
   abbrev picks : ℕ
   picks = scratch + (lent + 8) + (lent + 8)
 
-  pub due-after : (out : List ℕ) {r : List ℕ} (i : ℕ) → r ≡ put l i out → to ≤ i → i + length out ≤ to + (lent + 8) → Due arities r from rest sides to lent next scratch p
-  due-after out i e h k = record {
-    opened = opened-after (elsewhere-put l out i from lent scratch e (earlier (omega (arith, D .after))) (later (omega (arith, D .before)))) S;
-    after = D .after;
-    before = D .before;
-  }
+  -- it is due still, once something is written to its row
+  due-wrote : {piece : List ℕ} {a : Copied} {r : List ℕ} → Wrote l (to + 8) lent piece a r → Due arities r from rest sides to lent next scratch p
+  due-wrote W = due-elsewhere (wrote-elsewhere (due-target D) W) D
 
   module _ (ds : List Equation) where
-    pub kept-full : (ms : List Named) {r : List ℕ} → Wrote l (to + 8) lent (pending-words edition-one ds) Full r → Makes edition-one l to lent (live (extended ds ms next (p .st))) Large r
+    pub kept-full : (ms : List Named) {r : List ℕ} → Wrote l (to + 8) lent (pending-words edition-one ds) Full r
+        → Makes edition-one l to lent (live (extended ds ms next (p .st))) Large r × Elsewhere l r from lent scratch
     unfolding edition-one extended
     kept-full ms w =
         let h : lent < length (pending-words edition-one ds) = told-full lent (pending-words edition-one ds) (sym (w .tells)) in
-        makes-large (below-put l (w .out) (to + 8) (w .room) (omega arith)) (S .few) (omega (arith, news-size ds ms next (p .st)))
+        (makes-large (below-put l (w .out) (to + 8) (w .room) (omega arith)) (S .few) (omega (arith, news-size ds ms next (p .st))), wrote-elsewhere (due-target D) w)
 
     module _ {w : ℕ} {r : List ℕ} (W : Wrote l (to + 8) lent (pending-words edition-one ds) (Done w) r) {by m : ℕ} (by-within : Within l by m) (by-apart : Apart by m to (lent + 8)) where
       pub keep-parts : FinishParts r rest by m to w lent 1000 next
@@ -181,18 +170,18 @@ module _ {arities l : List ℕ} {from : ℕ} {rest : Rest} {sides : Sides} {to l
           }
 
       pub kept-made : {ms : List Named} → Piled l by m ms → {a : Made} {q : List ℕ} → Finished r to w lent (kept-piece r rest by m) (header-of (kept-header rest w m next)) a q
-          → Makes edition-one l to lent (live (extended ds ms next (p .st))) a q
+          → Makes edition-one l to lent (live (extended ds ms next (p .st))) a q × Elsewhere l q from lent scratch
       unfolding edition-one
       kept-made {ms} E F =
           let N = numbers S in
           let k : length (pending-words edition-one ds) ≡ w = done-length W in
-          let D′ = due-after (W .out) (to + 8) (W .room) (omega arith) (omega (arith, W .within)) in
+          let D′ = due-wrote W in
           let there : Piled r by m ms = record {
             piled = rw (W .room) (seg-put (W .out) l (apart-part by-apart (omega arith) (omega arith) (omega arith) (omega (arith, W .within)))) ∙ E .piled;
           } in
           let new : seg r (to + 8) w ≡ pending-words edition-one ds =
           rw (← k, done-room W) (seg-put-same (pending-words edition-one ds) l (to + 8) (omega (arith, D .before, done-fits W))) in
-          makes-before (below-put l (W .out) (to + 8) (W .room) (omega arith)) (keep-makes (D′ .opened .rested) there keep-parts ds new F (N .few))
+          (makes-before (below-put l (W .out) (to + 8) (W .room) (omega arith)) (keep-makes (D′ .opened .rested) there keep-parts ds new F (N .few)), row-elsewhere (due-target D) W F)
 
   -- ---- the new equations, as they are: the word x at a place stands for itself
 
@@ -250,23 +239,24 @@ module _ {arities l : List ℕ} {from : ℕ} {rest : Rest} {sides : Sides} {to l
         → Wrote l (to + 8) lent (pending-words edition-one (news p ++ (last ∷ []))) (further w a) q
     unfolding tails-piece
     last-written v =
-        let D′ = due-after (W .out) (to + 8) (W .room) (omega arith) (omega (arith, W .within)) in
+        let D′ = due-wrote W in
         let e : tails-piece r from sides ≡ pending-words edition-one (last ∷ []) = rw (s-stands (D′ .opened), r-stands (D′ .opened)) last-words in
         rw (pending-append edition-one (news p) (last ∷ [])) (wrote-more W (rw e at v))
 
   module _ (kind : tails (p .t) (p .u) ≡ Neither) where
-    pub news-full : {r : List ℕ} → Wrote l (to + 8) lent (pending-words edition-one (news p)) Full r → Makes edition-one l to lent (child p) Large r
+    pub news-full : {r : List ℕ} → Wrote l (to + 8) lent (pending-words edition-one (news p)) Full r → Makes edition-one l to lent (child p) Large r × Elsewhere l r from lent scratch
     news-full w =
         rw (neither-is kind) (kept-full (news p ++ (last ∷ [])) [] (rw (pending-append edition-one (news p) (last ∷ [])) (full-more (pending-words edition-one (last ∷ [])) w)))
 
-    pub last-full : {r : List ℕ} → Wrote l (to + 8) lent (pending-words edition-one (news p ++ (last ∷ []))) Full r → Makes edition-one l to lent (child p) Large r
+    pub last-full : {r : List ℕ} → Wrote l (to + 8) lent (pending-words edition-one (news p ++ (last ∷ []))) Full r → Makes edition-one l to lent (child p) Large r × Elsewhere l r from lent scratch
     last-full w = rw (neither-is kind) (kept-full (news p ++ (last ∷ [])) [] w)
 
     module _ {w : ℕ} {r : List ℕ} (W : Wrote l (to + 8) lent (pending-words edition-one (news p ++ (last ∷ []))) (Done w) r) (by : ℕ) (h : by ≤ length l) (apart : Apart by 0 to (lent + 8)) where
       pub neither-parts : FinishParts r rest by 0 to w lent 1000 next
       neither-parts = keep-parts (news p ++ (last ∷ [])) W {by = by} {m = 0} (omega arith) apart
 
-      pub neither-made : {a : Made} {q : List ℕ} → Finished r to w lent (kept-piece r rest by 0) (header-of (kept-header rest w 0 next)) a q → Makes edition-one l to lent (child p) a q
+      pub neither-made : {a : Made} {q : List ℕ} → Finished r to w lent (kept-piece r rest by 0) (header-of (kept-header rest w 0 next)) a q
+          → Makes edition-one l to lent (child p) a q × Elsewhere l q from lent scratch
       unfolding pile-words
       neither-made F =
           rw (neither-is kind) (kept-made (news p ++ (last ∷ [])) W {by = by} {m = 0} (omega arith) apart (record { piled = seg-zero l by }) F)

@@ -1,20 +1,20 @@
 -- The new equations written one after the other.
-use Prim.Native.Nat.{ℕ, suc, _+_, _-_, _<_, _≤_}
-use mathlib.Core.Path.{_≡_, refl, sym, ap, _∙_}
-use mathlib.Core.List.{List, [], _∷_, _++_, append-assoc, append-nil}
+use Prim.Native.Nat.{ℕ, _+_, _-_, _<_, _≤_}
+use mathlib.Core.Path.{_≡_, sym, ap, _∙_}
+use mathlib.Core.List.{List, [], _++_, append-assoc, append-nil}
 use mathlib.Core.Bool.{Bool, true, false, cond}
 use native.Mathlib.Omega.{arith}
 use lib.Dec.{ltb}
 use lib.ListN.{length, getD}
 use borrow.Author.Tests.{lt-ltb, le-ltb}
 use Rattle.room.specs.Room.{seg, put, length-put}
-use Rattle.room.specs.Parts.{Apart, ReplaceParts, apart-part, getD-put, seg-put}
+use Rattle.room.specs.Parts.{ReplaceParts, apart-part, getD-put, seg-put}
 use Rattle.room.specs.Replaced.{replaced, replaced-nil, replaced-append}
-use Rattle.room.specs.Fitting.{fitting, told}
+use Rattle.room.specs.Fitting.{fitting, told, further}
 use Rattle.room.specs.declared.Copied.{Copied}
 use Rattle.room.specs.declared.Copied.the-variants.{Done, Full}
-use Rattle.rows.specs.Wrote.{Wrote, further, wrote-nothing, wrote-replaced, wrote-more, wrote-length, full-more, done-fits, done-length}
-use Rattle.splits.specs.Gathered.{gathered, gathered-none, gathered-next, member-piece, meets-piece, meeting-piece, equations-piece, Noted, SideParts, MeetParts}
+use Rattle.rows.specs.Wrote.{Wrote, wrote-nothing, wrote-replaced, wrote-more, wrote-length, full-more, done-fits, done-length}
+use Rattle.splits.specs.Gathered.{gathered, gathered-none, gathered-next, member-piece, meets-piece, meeting-piece, SideParts, MeetParts}
 
 -- ---- one side
 

@@ -1,15 +1,15 @@
 -- An open split: where its parts lie, and what its picks gather.
-use Prim.Native.Nat.{ℕ, zero, suc, _+_, _-_, _*_, _<_, _≤_, _^_}
+use Prim.Native.Nat.{ℕ, _+_, _-_, _*_, _<_, _≤_, _^_}
 use mathlib.Core.Path.{_≡_, refl, ap, sym, _∙_}
-use mathlib.Core.List.{List, [], _∷_, _++_}
-use mathlib.Core.Bool.{Bool, true, false, cond}
+use mathlib.Core.List.{List, _++_}
+use mathlib.Core.Bool.{true, false}
 use native.Mathlib.Omega.{arith}
 use lib.ListN.{length, take, drop, getD, length-append}
 use lib.Seq.{take-at, drop-at}
-use Rattle.room.specs.Room.{seg, put, Within, length-seg, take-seg, drop-seg}
+use Rattle.room.specs.Room.{seg, Within, take-seg, drop-seg}
 use Rattle.room.specs.Parts.{Apart, earlier, apart-part}
 use Rattle.terms.specs.Bounds.{edition-one}
-use Rattle.terms.specs.Term.{Term, words, size, members, kernel}
+use Rattle.terms.specs.Term.{words, size, members, kernel}
 use Rattle.terms.specs.Shape.{is-unknown}
 use Rattle.terms.specs.Flat.{length-words}
 use Rattle.rows.specs.declared.bind.Rest.{Rest}

@@ -1,19 +1,18 @@
 -- Both sides of a split's equation are noted.
-use Prim.Native.Nat.{ℕ, zero, suc, _+_, _-_, _*_, _<_, _≤_, _^_}
+use Prim.Native.Nat.{ℕ, _+_, _-_, _≤_}
 use mathlib.Core.Path.{_≡_, refl, ap, sym, _∙_}
-use mathlib.Core.List.{List, [], _∷_, _++_, append-nil}
+use mathlib.Core.List.{List, [], append-nil}
 use native.Mathlib.Omega.{arith}
-use lib.ListN.{length, take, drop, getD}
+use lib.ListN.{length, drop, getD}
 use lib.Seq.{drop-at}
-use Rattle.room.specs.Room.{seg, put, Within, length-put, drop-seg, seg-put-same}
-use Rattle.room.specs.Parts.{Apart, earlier, later, seg-put}
+use Rattle.room.specs.Room.{seg, put, length-put, drop-seg, seg-put-same}
+use Rattle.room.specs.Parts.{earlier, seg-put}
 use Rattle.terms.specs.Bounds.{edition-one}
 use Rattle.terms.specs.Term.{Term, words, size, members}
 use Rattle.terms.specs.Flat.{length-words}
 use Rattle.rows.specs.Stripped.{kernel-place}
-use Rattle.splits.specs.declared.sides.Sides.{Sides}
 use Rattle.splits.specs.Places.{places, noted, noted-words, NoteParts}
-use Rattle.splits.specs.Standing.{At, at-of, at-last, length-places}
+use Rattle.splits.specs.Standing.{at-of, at-last, length-places}
 use Rattle.splits.specs.Opened.{few-members}
 use Rattle.splits.specs.Open.{Open, OpenSides}
 

@@ -1,25 +1,25 @@
 -- Different unknowns as tails: the child is dead, or binds both.
-use Prim.Native.Nat.{ℕ, zero, suc, _+_, _-_, _*_, _<_, _≤_, _^_}
+use Prim.Native.Nat.{ℕ, suc, _+_, _-_, _*_, _<_, _≤_}
 use mathlib.Core.Path.{_≡_, refl, ap, sym, _∙_}
-use mathlib.Core.List.{List, [], _∷_, _++_}
+use mathlib.Core.List.{List, _++_}
 use mathlib.Core.Bool.{Bool, true, false, cond, _||_, _&&_}
 use native.Mathlib.Omega.{arith}
 use native.Mathlib.Nat.{zero-add}
 use lib.Dec.{eqb}
 use lib.ListN.{length, getD}
 use borrow.Author.Tests.{eqb-false}
-use Rattle.room.specs.Room.{seg, put, Within, seg-seg}
-use Rattle.room.specs.Fitting.{told, told-done, told-full}
+use Rattle.room.specs.Room.{seg, put, seg-seg}
+use Rattle.room.specs.Fitting.{told-done, told-full}
 use Rattle.room.specs.declared.Copied.{Copied}
 use Rattle.room.specs.declared.Copied.the-variants.{Done, Full}
 use Rattle.terms.specs.Bounds.{edition-one, edition-one-proper}
 use Rattle.terms.specs.Lists.{any}
-use Rattle.terms.specs.Term.{Term, unknown, words, size, kernel, occurs, over, subst}
+use Rattle.terms.specs.Term.{Term, unknown, words, kernel, occurs, over, subst}
 use Rattle.terms.specs.Flat.{length-words}
 use Rattle.rows.specs.declared.bind.Rest.{Rest}
 use Rattle.rows.specs.declared.bind.Made.{Made}
-use Rattle.rows.specs.declared.bind.Made.the-variants.{Dead, Names, Large, Live}
-use Rattle.search.specs.State.{State, Node, dead, live, pend, renewed, state-size}
+use Rattle.rows.specs.declared.bind.Made.the-variants.{Dead, Names, Large}
+use Rattle.search.specs.State.{State, Node, dead, live, pend, renewed}
 use Rattle.search.specs.Children.{bound-state, bound, then-bound, settle}
 use Rattle.search.specs.declared.steps.Tails.the-variants.{Different}
 use Rattle.search.specs.Classify.{tails-by, tails}
@@ -31,14 +31,14 @@ use Rattle.rows.specs.Members.{member-words, holds-members}
 use Rattle.room.specs.Parts.{earlier}
 use Rattle.splits.specs.declared.sides.Sides.{Sides}
 use Rattle.splits.specs.declared.different.Joined.{Joined}
-use Rattle.splits.specs.Opened.{Parent, Opened, Elsewhere, elsewhere-next, elsewhere-put, opened-after, to-left, to-right, news}
+use Rattle.splits.specs.Opened.{Parent, Elsewhere, elsewhere-next, elsewhere-put, to-left, to-right, news}
 use Rattle.splits.specs.Due.{Due, child, child-is}
 use Rattle.splits.specs.Kept.{fourth}
 use Rattle.splits.specs.Occurring.{bound-size, occurs-subst, occurs-over}
-use Rattle.splits.specs.Shared.{Sharing, ShareParts, ShareMade, Shared, Twice, TwiceParts, TwiceMade, Renew, RenewParts, RenewMade, JoinedLaid, first-value, second-value, half, twice, sixth}
+use Rattle.splits.specs.Shared.{Sharing, ShareParts, ShareMade, Shared, Twice, TwiceParts, TwiceMade, Renew, RenewParts, RenewMade, JoinedLaid, first-value, second-value, half, twice}
 use Rattle.splits.proofs.Opening.{numbers}
 use Rattle.splits.proofs.Tailing.{s-word, r-word, s-small, r-small}
-use Rattle.splits.proofs.Making.{Below, below-next, below-put, makes-before, makes-dead, makes-names, makes-large, dead-only, live-not-dead}
+use Rattle.splits.proofs.Making.{Below, below-next, below-put, makes-before, makes-dead, makes-names, makes-large, due-elsewhere}
 use Rattle.splits.proofs.Values.{u-there, t-there}
 
 module _ {arities l : List ℕ} {from : ℕ} {rest : Rest} {sides : Sides} {joined : Joined} {x y to lent next scratch : ℕ} {l₀ : List ℕ} {p : Parent} {s r : ℕ}
@@ -54,8 +54,8 @@ module _ {arities l : List ℕ} {from : ℕ} {rest : Rest} {sides : Sides} {join
     within-below k n h =
         rw zero-add at (sym (seg-seg q 0 (fourth lent scratch) k n h) ∙ ap (λ (ws : List ℕ). seg ws k n) (shared .below) ∙ seg-seg l 0 (fourth lent scratch) k n h)
 
-    elsewhere : Elsewhere l q from lent scratch
-    elsewhere =
+    pub share-elsewhere : Elsewhere l q from lent scratch
+    share-elsewhere =
         let N = numbers (R .due .opened) in
         record { long = shared .long; low = within-below 0 (from + (lent + 8)) (omega arith); high = within-below scratch (3 * (lent + 8)) (omega arith) }
 
@@ -78,7 +78,7 @@ module _ {arities l : List ℕ} {from : ℕ} {rest : Rest} {sides : Sides} {join
       twice-due =
           let t = told-done lent m (words edition-one (second-value p next s)) (sym (shared .tells) ∙ e) in
           record {
-            due = record { opened = opened-after elsewhere (R .due .opened); after = R .due .after; before = R .due .before };
+            due = due-elsewhere share-elsewhere (R .due);
             first = shared .first;
             second = shared .second m e;
             u-within = omega (arith, R .sharing .u-within);
@@ -191,7 +191,7 @@ module _ {arities l : List ℕ} {from : ℕ} {rest : Rest} {sides : Sides} {to l
         (elsewhere-put one T (fourth lent scratch + (lent + 8)) from lent scratch (sharing .room) (earlier (omega arith)) (earlier (omega arith)))
 
     due-joined : Due arities q from rest sides to lent next scratch p
-    due-joined = record { opened = opened-after joined-elsewhere (D .opened); after = D .after; before = D .before }
+    due-joined = due-elsewhere joined-elsewhere D
 
     pub below-joined : Below l q to
     below-joined =
@@ -250,6 +250,3 @@ module _ {arities l : List ℕ} {from : ℕ} {rest : Rest} {sides : Sides} {to l
 
             pub different-made : {a : Made} {o : List ℕ} → RenewMade arities q from rest sides joined x y to lent next scratch a o → Makes edition-one l to lent (child p) a o
             different-made M = rw child-live (makes-before below-joined (M .makes l p s r renewing))
-
-            pub different-live : {a : Made} {o : List ℕ} → RenewMade arities q from rest sides joined x y to lent next scratch a o → a ≡ Dead → ⊥
-            different-live M e = live-not-dead (dead-only (live (twice p next s r)) (M .makes l p s r renewing) e)

@@ -1,16 +1,16 @@
 -- U and T laid out, and the second of two bindings.
-use Prim.Native.Nat.{ℕ, zero, suc, _+_, _-_, _*_, _<_, _≤_, _^_}
+use Prim.Native.Nat.{ℕ, _+_, _-_, _≤_}
 use mathlib.Core.Path.{_≡_, refl, ap, sym, _∙_}
-use mathlib.Core.List.{List, [], _∷_, _++_}
+use mathlib.Core.List.{List, []}
 use native.Mathlib.Omega.{arith}
 use lib.ListN.{length, getD}
-use Rattle.room.specs.Room.{seg, put, Within, length-put, seg-zero}
-use Rattle.room.specs.Parts.{Apart, earlier, later, apart-part}
+use Rattle.room.specs.Room.{seg, put, seg-zero}
+use Rattle.room.specs.Parts.{later, apart-part}
 use Rattle.room.specs.Replaced.{replaced, replaced-nil}
 use Rattle.terms.specs.Bounds.{edition-one}
 use Rattle.terms.specs.Term.{Term, words}
 use Rattle.terms.specs.Formed.{row, sides}
-use Rattle.search.specs.State.{State, live, pend, size-equations, size-named, state-size}
+use Rattle.search.specs.State.{State, live, pend, size-equations, state-size}
 use Rattle.search.specs.Children.{bound-state}
 use Rattle.rows.specs.declared.bind.Rest.{Rest}
 use Rattle.rows.specs.declared.bind.Made.{Made}
@@ -19,14 +19,12 @@ use Rattle.rows.specs.Bind.{FinishParts, pending-piece, pile-piece, bound-piece
 use Rattle.rows.specs.Header.{header-of}
 use Rattle.rows.specs.Finished.{Finished, bound-header}
 use Rattle.rows.specs.First.{header-in, HeaderParts, rest-after, header-in-words, holds-rest}
-use Rattle.rows.specs.Members.{member-words}
 use Rattle.rows.specs.States.{pending-words}
 use Rattle.rows.specs.Row.{Rested, Makes, header-for}
 use Rattle.rows.specs.Child.{ahead, finish-makes}
 use Rattle.splits.specs.declared.sides.Sides.{Sides}
-use Rattle.splits.specs.declared.different.Joined.{Joined}
 use Rattle.splits.specs.Gathered.{joining-piece, TailParts}
-use Rattle.splits.specs.Opened.{Parent, Opened, to-left, to-right}
+use Rattle.splits.specs.Opened.{Parent, Opened}
 use Rattle.splits.specs.Shared.{Sharing, Again}
 use Rattle.splits.proofs.Opening.{numbers, s-noted, r-noted, left-parts, right-parts, left-is, right-is}
 use Rattle.splits.proofs.Entering.{opened-up}

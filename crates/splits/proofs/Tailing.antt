@@ -1,36 +1,34 @@
 -- A split of which one tail is an unknown, or both are: the unknowns' words, and what they are bound to.
-use Prim.Native.Nat.{ℕ, zero, suc, _+_, _-_, _*_, _<_, _≤_, _^_}
+use Prim.Native.Nat.{ℕ, _+_, _-_, _<_, _≤_}
 use mathlib.Core.Path.{_≡_, refl, ap, sym, _∙_}
 use mathlib.Core.List.{List, [], _∷_, _++_}
-use mathlib.Core.Bool.{Bool, true, false, false≢true, true≢false}
+use mathlib.Core.Bool.{Bool, true, false, false≢true}
 use native.Mathlib.Omega.{arith}
 use lib.Dec.{eqb}
 use lib.ListN.{length, getD}
-use Rattle.room.specs.Room.{seg, put, Within, length-put, length-seg, seg-put-same, getD-seg}
-use Rattle.room.specs.Parts.{Apart, earlier, later, apart-part}
+use Rattle.room.specs.Room.{seg, put, seg-put-same, getD-seg}
+use Rattle.room.specs.Parts.{earlier, later}
 use Rattle.terms.specs.Bounds.{edition-one}
-use Rattle.terms.specs.Term.{Term, unknown, empty, with, functor, words, size, members, kernel, over}
+use Rattle.terms.specs.Term.{Term, unknown, empty, with, functor, words, members, kernel, over}
 use Rattle.terms.specs.Shape.{is-unknown, number}
 use Rattle.terms.specs.Formed.{Formed, formed-unknown}
 use Rattle.search.specs.declared.steps.Tails.{Tails}
-use Rattle.search.specs.declared.steps.Tails.the-variants.{Neither, Left, Right, Different, Same}
-use Rattle.search.specs.State.{State, Node, pend}
+use Rattle.search.specs.declared.steps.Tails.the-variants.{Left, Right}
+use Rattle.search.specs.State.{State, pend}
 use Rattle.search.specs.Classify.{tails-by, tails}
 use Rattle.search.specs.Children.{bound, settle}
 use Rattle.rows.specs.declared.bind.Rest.{Rest}
 use Rattle.rows.specs.declared.bind.Made.{Made}
-use Rattle.rows.specs.declared.bind.Made.the-variants.{Dead}
-use Rattle.rows.specs.Members.{member-words, words-over, formed-kernel}
+use Rattle.rows.specs.Members.{words-over, formed-kernel}
 use Rattle.rows.specs.Row.{Makes}
-use Rattle.rows.specs.Child.{Stands, ahead}
+use Rattle.rows.specs.Child.{ahead}
 use Rattle.splits.specs.declared.sides.Sides.{Sides}
-use Rattle.splits.specs.Gathered.{joining-piece}
 use Rattle.splits.specs.Value.{value-piece, ValueParts}
-use Rattle.splits.specs.Opened.{Parent, Opened, Elsewhere, elsewhere-put, opened-after, to-left, to-right, news}
-use Rattle.splits.specs.Bound.{Bound, BoundParts, Target, TailMade}
-use Rattle.splits.specs.Due.{Due, ChildMade, child, child-is}
-use Rattle.splits.proofs.Opening.{Numbers, numbers, s-stands, r-stands, s-noted, r-noted, left-parts, right-parts, left-is, right-is}
-use Rattle.splits.proofs.Making.{Below, below-put, makes-before}
+use Rattle.splits.specs.Opened.{Parent, Opened, Elsewhere, elsewhere-next, elsewhere-put, to-left, to-right, news}
+use Rattle.splits.specs.Bound.{Bound, BoundParts, TailMade}
+use Rattle.splits.specs.Due.{Due, child, child-is}
+use Rattle.splits.proofs.Opening.{numbers, s-stands, r-stands, s-noted, r-noted, left-parts, right-parts, left-is, right-is}
+use Rattle.splits.proofs.Making.{Below, below-put, makes-before, due-target, due-elsewhere}
 
 -- ---- what the kind of the tails tells
 
@@ -136,12 +134,15 @@ module _ {arities l : List ℕ} {from : ℕ} {rest : Rest} {sides : Sides} {to l
   value-elsewhere out e = let N = numbers S in elsewhere-put l out value from lent scratch e (earlier (omega arith)) (earlier (omega arith))
 
   pub tail-kept : (out : List ℕ) {r : List ℕ} → r ≡ put l value out → {x m : ℕ} {a : Made} {q : List ℕ} → TailMade arities r from rest sides x value m to lent next scratch a q
-      → a ≡ Dead → Elsewhere l q from lent scratch
-  tail-kept out there M e = rw (M .kept e) (value-elsewhere out there)
+      → Elsewhere l q from lent scratch
+  tail-kept out there M = elsewhere-next (value-elsewhere out there) (M .kept)
 
   module _ {r : List ℕ} (out : List ℕ) (v : Term) (e : out ≡ words edition-one v) (h : length out ≤ lent) (put-there : r ≡ put l value out) {m : ℕ} (k : m ≡ length out) where
     laid-below : Below l r to
     laid-below = let N = numbers S in below-put l out value put-there (omega (arith, D .before))
+
+    due-laid : Due arities r from rest sides to lent next scratch p
+    due-laid = due-elsewhere (value-elsewhere out put-there) D
 
     laid : {x name : ℕ} → x ≡ 1000 + name → name < next → Bound arities r from rest sides x value m to lent next scratch p name v
     laid {x} {name} f g =
@@ -149,12 +150,8 @@ module _ {arities l : List ℕ} {from : ℕ} {rest : Rest} {sides : Sides} {to l
         let long = laid-below .long in
         record {
           named = next;
-          opened = opened-after (value-elsewhere out put-there) S;
-          target = record {
-            to-within = rw long (omega (arith, D .before));
-            low-apart = earlier (omega (arith, D .after));
-            high-apart = later (omega (arith, D .before));
-          };
+          opened = due-laid .opened;
+          target = due-target due-laid;
           x-is = f;
           name-small = omega arith;
           stands = record { stands = rw (put-there, k) (seg-put-same out l value (omega arith)) ∙ e };

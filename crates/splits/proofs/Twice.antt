@@ -1,42 +1,40 @@
 -- Two bindings, one after the other: s by way of the last row of scratch, then r.
-use Prim.Native.Nat.{ℕ, zero, suc, _+_, _-_, _*_, _<_, _≤_, _^_}
+use Prim.Native.Nat.{ℕ, suc, _+_, _-_, _*_, _<_, _≤_}
 use mathlib.Core.Path.{_≡_, refl, ap, sym, _∙_}
-use mathlib.Core.List.{List, [], _∷_, _++_, map}
-use mathlib.Core.Bool.{Bool, true, false}
+use mathlib.Core.List.{List, [], _∷_}
+use mathlib.Core.Bool.{Bool}
 use native.Mathlib.Omega.{arith}
 use native.Mathlib.Nat.{zero-add}
 use lib.Dec.{eqb, leb, ltb}
-use lib.ListN.{length, getD, length-append}
+use lib.ListN.{length, length-append}
 use borrow.Author.Tests.{le-ltb, leb-true, leb-false}
-use Rattle.room.specs.Room.{seg, put, Within, seg-seg}
-use Rattle.room.specs.Parts.{Apart, earlier, later}
+use Rattle.room.specs.Room.{seg, seg-seg}
+use Rattle.room.specs.Parts.{earlier, later}
 use Rattle.room.specs.Replaced.{by-test}
-use Rattle.terms.specs.Bounds.{edition-one, edition-one-proper}
-use Rattle.terms.specs.Kind.{Worded}
+use Rattle.terms.specs.Bounds.{edition-one}
 use Rattle.terms.specs.Lists.{All, both, All-map, All-of-map}
 use Rattle.terms.specs.Lists as lists
-use Rattle.terms.specs.Term.{Term, Terms, unknown, empty, with, functor, none, more, words, size, members, kernel, over, subst, subst*, count}
+use Rattle.terms.specs.Term.{Term, Terms, none, more, members, over, subst, subst*, count}
 use Rattle.terms.specs.Formed.{Formed, Formed*, formed-unknown, formed-empty, formed-with, formed-functor, formed-none, formed-more}
 use Rattle.terms.specs.Formed.{Equation}
 use Rattle.terms.specs.Answers.{Named}
-use Rattle.search.specs.State.{State, Node, live, state-size}
+use Rattle.search.specs.State.{State, live, state-size}
 use Rattle.search.specs.Children.{bound-state, kept, others}
 use Rattle.rows.specs.declared.bind.Rest.{Rest}
 use Rattle.rows.specs.declared.bind.Made.{Made}
-use Rattle.rows.specs.declared.bind.Made.the-variants.{Dead, Names, Large, Live}
+use Rattle.rows.specs.declared.bind.Made.the-variants.{Large, Live}
 use Rattle.rows.specs.Finished.{made}
 use Rattle.rows.specs.Row.{Makes, becomes}
-use Rattle.rows.specs.Child.{Stands, ahead}
+use Rattle.rows.specs.Child.{ahead}
 use Rattle.turns.specs.Picking.{joining-by}
 use Rattle.splits.specs.declared.sides.Sides.{Sides}
-use Rattle.splits.specs.Opened.{Parent, Opened, own-left, own-right, to-left, to-right, news}
-use Rattle.splits.specs.Due.{Due}
+use Rattle.splits.specs.Opened.{Parent, Opened, Elsewhere, elsewhere-next, own-right, to-left}
 use Rattle.splits.specs.Bound.{Bound, BoundParts, BoundMade, bound-child}
 use Rattle.splits.specs.Kept.{fourth}
 use Rattle.splits.specs.Occurring.{bound-size}
 use Rattle.splits.specs.Shared.{Again, AgainParts, AgainMade, Twice, first-value, second-value, half, twice, sixth}
 use Rattle.splits.proofs.Opening.{numbers}
-use Rattle.splits.proofs.Making.{Below, makes-before, makes-large}
+use Rattle.splits.proofs.Making.{Below, makes-before, makes-large, due-target, due-elsewhere}
 
 -- ---- terms stay formed
 
@@ -216,3 +214,6 @@ module _ {arities l : List ℕ} {from : ℕ} {rest : Rest} {sides : Sides} {x u 
     pub twice-made : a ≡ Live → {b : Made} {o : List ℕ} → AgainMade arities q between y (sixth lent scratch) m to lent (next + 1) b o → Makes edition-one l to lent (live (twice p next s r)) b o
     unfolding twice
     twice-made e A = makes-before half-below (A .makes (half p next s) r (second-value p next s) (second-again e))
+
+    pub twice-kept : {b : Made} {o : List ℕ} → AgainMade arities q between y (sixth lent scratch) m to lent (next + 1) b o → Elsewhere l o from lent scratch
+    twice-kept A = elsewhere-next (M .kept) (A .kept from scratch (due-target (due-elsewhere (M .kept) (D .due))))

@@ -1,26 +1,23 @@
 -- The two values that share a new tail, laid out.
-use Prim.Native.Nat.{ℕ, zero, suc, _+_, _-_, _*_, _<_, _≤_, _^_}
-use mathlib.Core.Path.{_≡_, refl, ap, sym, _∙_}
+use Prim.Native.Nat.{ℕ, _+_, _-_, _<_}
+use mathlib.Core.Path.{_≡_, ap, sym, _∙_}
 use mathlib.Core.List.{List, [], _∷_, _++_}
 use native.Mathlib.Omega.{arith}
 use lib.ListN.{length, getD, set, length-set}
 use lib.Seq.{getD-set-same, getD-set-other}
-use Rattle.room.specs.Room.{seg, put, Within, length-put, seg-more, seg-put-same}
-use Rattle.room.specs.Parts.{Apart, ReplaceParts, earlier, later, seg-put, seg-set}
+use Rattle.room.specs.Room.{seg, put, length-put, seg-more, seg-put-same}
+use Rattle.room.specs.Parts.{ReplaceParts, earlier, later, seg-put, seg-set}
 use Rattle.room.specs.Replaced.{replaced}
 use Rattle.room.specs.Fitting.{fitting, told}
 use Rattle.room.specs.declared.Copied.{Copied}
-use Rattle.room.specs.declared.Copied.the-variants.{Done, Full}
 use Rattle.terms.specs.Bounds.{edition-one, edition-one-proper}
 use Rattle.terms.specs.Term.{Term, unknown, words, over}
 use Rattle.rows.specs.Flat.{replaced-words}
 use Rattle.rows.specs.Members.{member-words, words-over}
 use Rattle.rows.specs.Wrote.{Wrote, wrote-replaced, done-fits, done-length, done-room}
-use Rattle.rows.specs.Child.{Stands}
 use Rattle.splits.specs.declared.different.Joined.{Joined}
 use Rattle.splits.specs.Opened.{Parent, to-left, to-right}
-use Rattle.splits.specs.Kept.{fourth}
-use Rattle.splits.specs.Shared.{Sharing, ShareParts, Shared, first-value, second-value, sixth}
+use Rattle.splits.specs.Shared.{Sharing, ShareParts, Shared, first-value, second-value}
 
 module _ (lent scratch : ℕ) where
   abbrev pub first : ℕ

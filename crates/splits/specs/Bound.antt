@@ -1,20 +1,19 @@
 -- A child of a split that binds an unknown to a term, whose words stand somewhere in the room.
-use Prim.Native.Nat.{ℕ, zero, suc, _+_, _-_, _*_, _<_, _≤_, _^_}
-use mathlib.Core.Path.{_≡_, refl, ap, sym, _∙_}
-use mathlib.Core.List.{List, [], _∷_, _++_}
+use Prim.Native.Nat.{ℕ, _+_, _-_, _*_, _<_, _≤_}
+use mathlib.Core.Path.{_≡_}
+use mathlib.Core.List.{List}
 use Rattle.room.specs.Room.{Within}
 use Rattle.room.specs.Parts.{Apart}
 use Rattle.terms.specs.Bounds.{edition-one}
 use Rattle.terms.specs.Term.{Term}
-use Rattle.search.specs.State.{State, Node, live}
+use Rattle.search.specs.State.{Node, live}
 use Rattle.search.specs.Children.{bound, bound-state}
 use Rattle.rows.specs.declared.bind.Rest.{Rest}
 use Rattle.rows.specs.declared.bind.Made.{Made}
-use Rattle.rows.specs.declared.bind.Made.the-variants.{Dead}
 use Rattle.rows.specs.Row.{Makes}
 use Rattle.rows.specs.Child.{Stands, ahead}
 use Rattle.splits.specs.declared.sides.Sides.{Sides}
-use Rattle.splits.specs.Opened.{Parent, Opened, news}
+use Rattle.splits.specs.Opened.{Parent, Opened, Elsewhere, news}
 
 -- the unknown `name` is bound to a value
 unfoldable pub bound-child : Parent → (next name : ℕ) → Term → Node
@@ -44,13 +43,14 @@ pub record BoundParts (arities l : List ℕ) (from : ℕ) (rest : Rest) (sides :
   pub value : Term
   pub bound : Bound arities l from rest sides x by m to lent next scratch p name value
 
--- the child of whichever parent it is
+-- the child of whichever parent it is; the parent's row and the first three rows of scratch are as they were
 pub record BoundMade (arities l : List ℕ) (from : ℕ) (rest : Rest) (sides : Sides) (x by m to lent next scratch : ℕ) (a : Made) (r : List ℕ) : Type 0 where
   pub makes : (p : Parent) (name : ℕ) (value : Term) → Bound arities l from rest sides x by m to lent next scratch p name value
       → Makes edition-one l to lent (bound-child p next name value) a r
+  pub kept : Elsewhere l r from lent scratch
 
--- or a dead end, before anything is written
+-- or a dead end
 pub record TailMade (arities l : List ℕ) (from : ℕ) (rest : Rest) (sides : Sides) (x by m to lent next scratch : ℕ) (a : Made) (r : List ℕ) : Type 0 where
   pub makes : (p : Parent) (name : ℕ) (value : Term) → Bound arities l from rest sides x by m to lent next scratch p name value
       → Makes edition-one l to lent (bound name value (ahead (news p) next (p .st))) a r
-  pub kept : a ≡ Dead → r ≡ l
+  pub kept : Elsewhere l r from lent scratch

@@ -1,14 +1,14 @@
 -- The digits of a child's number in the room: those that are written for a number, and the next ones after those that stand there.
-use Prim.Native.Nat.{ℕ, zero, suc, _+_, _-_, _*_, _<_, _≤_}
+use Prim.Native.Nat.{ℕ, zero, suc, _+_, _-_, _*_, _<_}
 use mathlib.Core.Path.{_≡_, refl, ap, sym, _∙_}
-use mathlib.Core.List.{List, [], _∷_, _++_, append-assoc}
+use mathlib.Core.List.{List, [], _∷_, _++_}
 use mathlib.Core.Bool.{Bool, true, false, true≢false}
 use native.Mathlib.Omega.{arith}
 use native.Mathlib.Nat.{zero-add, suc-add, zero-mul, suc-mul, add-mul, mul-assoc}
-use lib.ListN.{length, length-append}
-use Rattle.room.specs.Room.{seg, put, Within, length-put, length-seg, put-put, put-seg, seg-append}
-use Rattle.room.specs.Parts.{Apart, earlier, later, put-comm, seg-put}
-use Rattle.turns.specs.Numbers.{choices, number, Digits, no-digit, digit, number-below, choices-append, number-append, digits-append}
+use lib.ListN.{length}
+use Rattle.room.specs.Room.{seg, put, Within, length-put, put-put, put-seg, seg-append}
+use Rattle.room.specs.Parts.{Apart, earlier, put-comm, seg-put}
+use Rattle.turns.specs.Numbers.{choices, number, Digits, no-digit, digit, choices-append, number-append, digits-append}
 
 -- n digits of one radix
 unfoldable pub copies : ℕ → ℕ → List ℕ

@@ -1,16 +1,15 @@
 -- A child of a split that is due, and what a function that makes it says.
 use Prim.Native.Nat.{ℕ, _+_, _≤_}
-use mathlib.Core.Path.{_≡_, refl, sym, ap, _∙_}
-use mathlib.Core.List.{List, _++_}
+use mathlib.Core.Path.{_≡_}
+use mathlib.Core.List.{List}
 use Rattle.terms.specs.Bounds.{edition-one}
-use Rattle.terms.specs.Term.{Term, kernel}
+use Rattle.terms.specs.Term.{kernel}
 use Rattle.search.specs.declared.steps.Tails.{Tails}
-use Rattle.search.specs.State.{State, Node, pend}
+use Rattle.search.specs.State.{Node}
 use Rattle.search.specs.Classify.{tails}
 use Rattle.search.specs.Children.{settle}
 use Rattle.rows.specs.declared.bind.Rest.{Rest}
 use Rattle.rows.specs.declared.bind.Made.{Made}
-use Rattle.rows.specs.declared.bind.Made.the-variants.{Dead}
 use Rattle.rows.specs.Row.{Makes}
 use Rattle.turns.specs.Picking.{child-of}
 use Rattle.splits.specs.declared.sides.Sides.{Sides}
@@ -33,8 +32,8 @@ pub record ChildParts (arities l : List ℕ) (from : ℕ) (rest : Rest) (sides :
 -- the child of whichever parent it is
 pub record ChildMade (arities l : List ℕ) (from : ℕ) (rest : Rest) (sides : Sides) (k : Tails) (to lent next scratch : ℕ) (a : Made) (r : List ℕ) : Type 0 where
   pub makes : (p : Parent) → Due arities l from rest sides to lent next scratch p → tails (p .t) (p .u) ≡ k → Makes edition-one l to lent (child p) a r
-  -- a dead end leaves the parent's row and the first three rows of scratch as they were
-  pub kept : (p : Parent) → Due arities l from rest sides to lent next scratch p → tails (p .t) (p .u) ≡ k → a ≡ Dead → Elsewhere l r from lent scratch
+  -- the parent's row and the first three rows of scratch are as they were
+  pub kept : (p : Parent) → Due arities l from rest sides to lent next scratch p → tails (p .t) (p .u) ≡ k → Elsewhere l r from lent scratch
 
 pub child-is : (p : Parent) {k : Tails} → tails (p .t) (p .u) ≡ k → child p ≡ settle k (kernel (p .t)) (kernel (p .u)) (to-right p) (to-left p) (news p) (p .st)
 unfolding child child-of to-right to-left news own-left own-right

@@ -1,12 +1,12 @@
 -- What a child's picks gather from its parent's row, read off the noted places: the members that join the other side's tail, each with its mark,
 -- and the sides of the new equations. Then where the parts of the room lie that are read and written.
 use Prim.Native.Nat.{ℕ, zero, suc, _+_, _-_, _<_, _≤_}
-use mathlib.Core.Path.{_≡_, refl, ap, sym, _∙_}
-use mathlib.Core.List.{List, [], _∷_, _++_}
+use mathlib.Core.Path.{_≡_}
+use mathlib.Core.List.{List, [], _++_}
 use mathlib.Core.Bool.{Bool, true, false, cond}
 use native.Mathlib.Omega.{arith}
 use lib.Dec.{ltb}
-use lib.ListN.{length, getD}
+use lib.ListN.{getD}
 use Rattle.room.specs.Room.{seg, Within}
 use Rattle.room.specs.Parts.{Apart}
 

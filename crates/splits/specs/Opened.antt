@@ -1,15 +1,14 @@
 -- A split's parent in the room: its row, the noted places of its first equation's members, and the digits of the child that is due. What of the room
 -- must stay as it is while the child is made.
-use Prim.Native.Nat.{ℕ, zero, suc, _+_, _-_, _*_, _<_, _≤_, _^_}
+use Prim.Native.Nat.{ℕ, _+_, _-_, _*_, _<_, _≤_, _^_}
 use mathlib.Core.Path.{_≡_, refl, ap, sym, _∙_}
-use mathlib.Core.List.{List, [], _∷_, _++_}
-use mathlib.Core.Bool.{Bool, true, false, cond}
+use mathlib.Core.List.{List, _++_}
 use native.Mathlib.Omega.{arith}
 use native.Mathlib.Nat.{zero-add}
-use lib.ListN.{length, getD, length-append}
-use Rattle.room.specs.Room.{seg, put, Within, length-put, seg-seg}
-use Rattle.room.specs.Parts.{Apart, apart-part, seg-put}
-use Rattle.terms.specs.Bounds.{Bounds, edition-one}
+use lib.ListN.{length}
+use Rattle.room.specs.Room.{seg, put, length-put, seg-seg}
+use Rattle.room.specs.Parts.{Apart, seg-put}
+use Rattle.terms.specs.Bounds.{edition-one}
 use Rattle.terms.specs.Kind.{Worded}
 use Rattle.terms.specs.Lists.{All}
 use Rattle.terms.specs.Term.{Term, unknown, empty, with, functor, words, size, members, kernel}
@@ -96,6 +95,9 @@ pub record Elsewhere (l r : List ℕ) (from lent scratch : ℕ) : Type 0 where
   pub long : length r ≡ length l
   pub low : seg r 0 (from + (lent + 8)) ≡ seg l 0 (from + (lent + 8))
   pub high : seg r scratch (3 * (lent + 8)) ≡ seg l scratch (3 * (lent + 8))
+
+pub elsewhere-same : {l : List ℕ} {from lent scratch : ℕ} → Elsewhere l l from lent scratch
+elsewhere-same = record { long = refl; low = refl; high = refl }
 
 pub elsewhere-next : {l r q : List ℕ} {from lent scratch : ℕ} → Elsewhere l r from lent scratch → Elsewhere r q from lent scratch → Elsewhere l q from lent scratch
 elsewhere-next E F = record { long = F .long ∙ E .long; low = F .low ∙ E .low; high = F .high ∙ E .high }

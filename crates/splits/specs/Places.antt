@@ -1,17 +1,16 @@
 -- The places of a set's member marks in its words, and then of its kernel. Then the same said of the set's tree: between two places stand a mark
 -- and a member.
 use Prim.Native.Nat.{ℕ, zero, suc, _+_, _-_, _^_, _<_, _≤_}
-use mathlib.Core.Path.{_≡_, refl, ap, sym, _∙_}
+use mathlib.Core.Path.{_≡_, refl, ap, _∙_}
 use mathlib.Core.List.{List, [], _∷_, _++_, append-assoc}
-use mathlib.Core.Bool.{Bool, true, false, cond}
+use mathlib.Core.Bool.{cond}
 use native.Mathlib.Omega.{arith}
 use lib.Dec.{eqb}
-use lib.ListN.{length, drop, getD, length-append}
+use lib.ListN.{length}
 use borrow.Author.Tests.{eq-eqb, ne-eqb}
 use Rattle.room.specs.Room.{Within}
 use Rattle.room.specs.Parts.{Apart}
-use Rattle.room.specs.Replaced.{by-test}
-use Rattle.terms.specs.Bounds.{Bounds, Proper}
+use Rattle.terms.specs.Bounds.{Bounds}
 use Rattle.terms.specs.Kind.{takes, Worded}
 use Rattle.terms.specs.Lists.{All, none, both}
 use Rattle.terms.specs.Term.{Term, unknown, empty, with, functor, words, words*, size}

@@ -1,7 +1,7 @@
 -- Two unknowns bound one after the other, to sets that share a new tail: U and T laid out in scratch, and the second binding.
-use Prim.Native.Nat.{ℕ, zero, suc, _+_, _-_, _*_, _<_, _≤_, _^_}
-use mathlib.Core.Path.{_≡_, refl, ap, sym, _∙_}
-use mathlib.Core.List.{List, [], _∷_, _++_}
+use Prim.Native.Nat.{ℕ, _+_, _-_, _*_, _<_, _≤_, _^_}
+use mathlib.Core.Path.{_≡_}
+use mathlib.Core.List.{List}
 use lib.ListN.{length}
 use Rattle.room.specs.Room.{seg, put, Within}
 use Rattle.room.specs.Parts.{Apart}
@@ -22,8 +22,9 @@ use Rattle.room.specs.declared.Copied.{Copied}
 use Rattle.room.specs.declared.Copied.the-variants.{Done}
 use Rattle.splits.specs.declared.sides.Sides.{Sides}
 use Rattle.splits.specs.declared.different.Joined.{Joined}
-use Rattle.splits.specs.Opened.{Parent, Opened, to-left, to-right, news}
+use Rattle.splits.specs.Opened.{Parent, Opened, Elsewhere, to-left, to-right, news}
 use Rattle.splits.specs.Due.{Due}
+use Rattle.splits.specs.Bound.{Target}
 use Rattle.splits.specs.Kept.{fourth}
 
 -- ---- U and T
@@ -66,6 +67,8 @@ pub record AgainParts (arities l : List ℕ) (between x by m to lent next : ℕ)
 pub record AgainMade (arities l : List ℕ) (between x by m to lent next : ℕ) (a : Made) (r : List ℕ) : Type 0 where
   pub makes : (st : State) (name : ℕ) (value : Term) → Again arities l between x by m to lent next st name value
       → Makes edition-one l to lent (live (bound-state name value st)) a r
+  -- wherever a parent's row and the scratch lie
+  pub kept : (from scratch : ℕ) → Target l from lent scratch to → Elsewhere l r from lent scratch
 
 -- ---- the two values
 
@@ -124,6 +127,7 @@ pub record TwiceParts (arities l : List ℕ) (from : ℕ) (rest : Rest) (sides :
 
 pub record TwiceMade (arities l : List ℕ) (from : ℕ) (rest : Rest) (sides : Sides) (x u y m to lent next scratch : ℕ) (a : Made) (q : List ℕ) : Type 0 where
   pub makes : (p : Parent) (s r : ℕ) → Twice arities l from rest sides x u y m to lent next scratch p s r → Makes edition-one l to lent (live (twice p next s r)) a q
+  pub kept : Elsewhere l q from lent scratch
 
 -- U and T are laid out, from the room l₀ on
 pub record Renew (arities l : List ℕ) (from : ℕ) (rest : Rest) (sides : Sides) (joined : Joined) (x y to lent next scratch : ℕ) (l₀ : List ℕ) (p : Parent) (s r : ℕ) : Type 0 where
@@ -144,3 +148,4 @@ pub record RenewParts (arities l : List ℕ) (from : ℕ) (rest : Rest) (sides :
 
 pub record RenewMade (arities l : List ℕ) (from : ℕ) (rest : Rest) (sides : Sides) (joined : Joined) (x y to lent next scratch : ℕ) (a : Made) (q : List ℕ) : Type 0 where
   pub makes : (l₀ : List ℕ) (p : Parent) (s r : ℕ) → Renew arities l from rest sides joined x y to lent next scratch l₀ p s r → Makes edition-one l to lent (live (twice p next s r)) a q
+  pub kept : Elsewhere l q from lent scratch

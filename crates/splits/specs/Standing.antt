@@ -2,15 +2,15 @@
 -- members that join the other side's tail, and those of the new equations.
 use Prim.Native.Nat.{ℕ, zero, suc, _+_, _-_, _<_, _≤_}
 use mathlib.Core.Path.{_≡_, refl, ap, sym, _∙_}
-use mathlib.Core.List.{List, [], _∷_, _++_, append-assoc, append-nil}
-use mathlib.Core.Bool.{Bool, true, false, cond}
+use mathlib.Core.List.{List, [], _∷_, _++_, append-assoc}
+use mathlib.Core.Bool.{Bool, cond}
 use native.Mathlib.Omega.{arith}
 use native.Mathlib.Nat.{add-zero}
 use lib.Dec.{ltb}
-use lib.ListN.{length, take, drop, getD, length-append}
+use lib.ListN.{length, take, drop, getD}
 use lib.Seq.{take-at, drop-at}
-use borrow.Author.Tests.{ltb-true, ltb-false}
-use Rattle.room.specs.Room.{seg, Within, length-seg, seg-cons, take-seg, drop-seg}
+use borrow.Author.Tests.{ltb-true}
+use Rattle.room.specs.Room.{seg, seg-cons, take-seg, drop-seg}
 use Rattle.room.specs.Replaced.{by-test}
 use Rattle.terms.specs.Bounds.{Bounds}
 use Rattle.terms.specs.Term.{Term, unknown, empty, with, functor, words, size, members}
@@ -20,7 +20,7 @@ use Rattle.rows.specs.Stripped.{kernel-place}
 use Rattle.rows.specs.Members.{member-words}
 use Rattle.rows.specs.States.{pending-words}
 use Rattle.turns.specs.Picking.{equations-by, joining-by}
-use Rattle.splits.specs.Gathered.{gathered, member-piece, marked-piece, joins-piece, joining-piece, meets-piece, meeting-piece, Noted}
+use Rattle.splits.specs.Gathered.{gathered, member-piece, marked-piece, joins-piece, meets-piece}
 use Rattle.splits.specs.Places.{places}
 
 -- these words stand at a place

@@ -1,5 +1,5 @@
 -- What a tail is bound to, in words: the members that joined it, and then the other tail.
-use Prim.Native.Nat.{ℕ, _+_, _≤_}
+use Prim.Native.Nat.{ℕ, _+_}
 use mathlib.Core.List.{List, _++_}
 use lib.ListN.{getD}
 use Rattle.room.specs.Room.{seg, Within}

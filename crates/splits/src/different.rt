@@ -18,6 +18,8 @@ use rows::first::read_header;
 use rows::first::rest_of;
 use rows::header::HEADER;
 use rows::walk::is_in;
+use terms::bounds::FIRST_UNKNOWN;
+use terms::bounds::PATH_UNKNOWNS;
 
 // The numbers of words of U and of T, each member with its mark.
 pub struct Joined {
@@ -96,7 +98,7 @@ fn share(
     let first = scratch + stride + stride + stride;
     let second = first + stride;
     let value = second + stride;
-    let word = (1000 + next) as u16;
+    let word = FIRST_UNKNOWN + next as u16;
     room[first + joined.u] = word;
     room[second + joined.t] = word;
     room::replace(
@@ -223,7 +225,7 @@ pub fn different(
     if crosses(&room[first..u], &room[second..t], s, r) {
         return Made::Dead;
     }
-    if 512 <= next {
+    if PATH_UNKNOWNS <= next {
         return Made::Names;
     }
     renew(

@@ -1,18 +1,16 @@
 -- A run that goes on from where it stands: what was counted so far, and the visits still to come, read off the open states of a path.
 -- In order: a run resumed, and what each verdict makes of it; the visits below a path, and what a turn makes of them.
-use Prim.Native.Nat.{ℕ, zero, suc, _+_, _-_, _≤_, _<_}
-use mathlib.Core.Path.{_≡_, refl, sym, ap, _∙_}
+use Prim.Native.Nat.{ℕ, suc, _+_, _-_, _≤_}
+use mathlib.Core.Path.{_≡_, ap}
 use mathlib.Core.List.{List, [], _∷_, _++_, flatMap, append-assoc, append-nil}
-use lib.ListN.{length, drop, length-append}
+use lib.ListN.{length, drop}
 use native.Mathlib.Omega.{arith}
 use Rattle.terms.specs.Bounds.{Bounds}
-use Rattle.terms.specs.Answers.{listed}
-use Rattle.terms.specs.Formed.{Question}
 use Rattle.search.specs.declared.ends.End.{End}
 use Rattle.search.specs.declared.ends.End.the-variants.{Space}
 use Rattle.search.specs.State.{State, Node, dead, live}
 use Rattle.search.specs.Children.{children}
-use Rattle.search.specs.Run.{Visit, visit, dead-visit, visits, Loan, Outcome, found, found-size, Verdict, stops, overflows, goes-on, verdict, spend, after, scan}
+use Rattle.search.specs.Run.{Visit, visit, dead-visit, visits, Loan, Outcome, found, found-size, stops, overflows, goes-on, verdict, spend, after, scan}
 
 -- ---- a run resumed
 

@@ -3,18 +3,18 @@
 use Prim.Native.Nat.{ℕ, zero, suc, _+_, _*_, _≤_, _<_}
 use mathlib.Core.Path.{_≡_, refl, sym, ap, _∙_}
 use mathlib.Core.Bool.{Bool, true, false, cond}
-use mathlib.Core.List.{List, [], _∷_, _++_, map, flatMap, append-nil}
+use mathlib.Core.List.{List, [], _∷_, _++_, map, flatMap}
 use lib.Dec.{ltb}
 use lib.ListN.{length, drop, getD, length-append, length-map, List·getD-append}
 use lib.Seq.{getD-at}
-use borrow.Author.Tests.{lt-ltb, le-ltb, ltb-true, ltb-false}
+use borrow.Author.Tests.{ltb-true, ltb-false}
 use native.Mathlib.Omega.{arith}
 use Rattle.terms.specs.Lists.{All, none, both, product, cases}
 use Rattle.terms.specs.Term.{Term, empty, members, kernel}
 use Rattle.terms.specs.Formed.{Equation}
 use Rattle.terms.specs.Shape.{is-unknown}
 use Rattle.search.specs.declared.steps.Tails.{Tails}
-use Rattle.search.specs.State.{State, Node, dead}
+use Rattle.search.specs.State.{State, Node}
 use Rattle.search.specs.Children.{Pick, meets, joins, tail-pick, picks-of-t, picks-of-u, new-equations, joining, settle, split}
 use Rattle.turns.specs.Numbers.{drop-next, getD-first, drop-map, drop-flatMap, length-flatMap, choices, number, Digits, no-digit, digit, number-below, chosen, radices, length-product, drop-product}
 

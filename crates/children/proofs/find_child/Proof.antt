@@ -9,6 +9,7 @@ use Rattle.search.specs.declared.steps.Tails.{Tails}
 use Rattle.search.specs.declared.steps.Step.{Step}
 use Rattle.search.specs.declared.steps.Step.the-variants.{Split}
 use Rattle.children.proofs.Choosing.{nothing-pending, last-within, lent-small, rest-asked, splitting, single}
+use Rattle.children.proofs.Telling.{looks-kept, looks-opened}
 use borrow.Author.Needs.{needs}
 use Rattle.children.proofs.find_child.Statement.{statement}
 use Rattle.children.proofs.find_child.Tie as tie
@@ -41,7 +42,7 @@ same-length : tie.Need-same-length
 same-length c = search needs
 
 returns : tie.Need-returns
-returns c = λ st R. c .before .before .join-pile .ensures st (nothing-pending R (c .before .before .before .before .before .before .read-header .ensures) (c .before .before .before .before .if1 .taken))
+returns c = λ st R. looks-kept (c .before .before .join-pile .ensures st (nothing-pending R (c .before .before .before .before .before .before .read-header .ensures) (c .before .before .before .before .if1 .taken)))
 
 add-body : tie.Need-add-body
 add-body c = search needs
@@ -80,13 +81,13 @@ same-length-2 : tie.Need-same-length-2
 same-length-2 c = search needs
 
 returns-2 : tie.Need-returns-2
-returns-2 c = λ st R. c .before .before .pick .ensures st _ _ (splitting R (c .before .before .before .before .before .before .before .before .before .before .before .before .before .before .read-header .ensures) (c .before .before .before .before .before .before .before .before .before .before .before .before .if1 .left) (c .before .before .before .before .before .before .before .before .first-of .ensures) (c .before .before .before .before .before .before .before .rest-of .ensures) (c .before .before .before .before .before .step .given .1))
+returns-2 c = λ st R. looks-opened (c .before .before .pick .ensures st _ _ (splitting R (c .before .before .before .before .before .before .before .before .before .before .before .before .before .before .read-header .ensures) (c .before .before .before .before .before .before .before .before .before .before .before .before .if1 .left) (c .before .before .before .before .before .before .before .before .first-of .ensures) (c .before .before .before .before .before .before .before .rest-of .ensures) (c .before .before .before .before .before .step .given .1)))
 
 same-length-3 : tie.Need-same-length-3
 same-length-3 c = search needs
 
 returns-3 : tie.Need-returns-3
-returns-3 c = λ st R. c .before .before .step-on .ensures st _ _ (single R (c .before .before .before .before .before .before .before .before .before .before .before .before .read-header .ensures) (c .before .before .before .before .before .before .before .before .before .before .if1 .left) (c .before .before .before .before .before .before .first-of .ensures) (c .before .before .before .before .before .rest-of .ensures) (no-split _ (c .before .before .before .before .match .keys2)))
+returns-3 c = λ st R. looks-kept (c .before .before .step-on .ensures st _ _ (single R (c .before .before .before .before .before .before .before .before .before .before .before .before .read-header .ensures) (c .before .before .before .before .before .before .before .before .before .before .if1 .left) (c .before .before .before .before .before .before .first-of .ensures) (c .before .before .before .before .before .rest-of .ensures) (no-split _ (c .before .before .before .before .match .keys2))))
 
 pub find-child-spec : {M : Type 1} → statement M
 find-child-spec =

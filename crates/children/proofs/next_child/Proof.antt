@@ -1,5 +1,7 @@
 -- `children::next_child`: `Leaving` has the law of a row that is left at once.
 use Rattle.children.proofs.Leaving.{left-at-once}
+use Rattle.children.proofs.Only.{unopened}
+use Rattle.children.proofs.Telling.{looks-kept}
 use borrow.Author.Needs.{needs}
 use Rattle.children.proofs.next_child.Statement.{statement}
 use Rattle.children.proofs.next_child.Tie as tie
@@ -14,7 +16,7 @@ slice-read-if2 : tie.Need-slice-read-if2
 slice-read-if2 c = search needs
 
 returns : tie.Need-returns
-returns c = λ st R. left-at-once R (c .before .before .if1 .taken) (c .if2 .taken)
+returns c = λ st R. looks-kept (unopened _ (left-at-once R (c .before .before .if1 .taken) (c .if2 .taken)))
 
 find-child-requires : tie.Need-find-child-requires
 find-child-requires c κs = search needs

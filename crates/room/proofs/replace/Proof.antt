@@ -1,5 +1,4 @@
 -- `replace` meets its contract: each of the two functions has it, for its number of words.
-use Rattle.room.specs.Parts.{ReplaceParts}
 use borrow.Author.Needs.{needs}
 use Rattle.room.proofs.replace.Statement.{statement}
 use Rattle.room.proofs.replace.Tie as tie

@@ -1,5 +1,5 @@
 -- `replace_word` meets its contract: `Word` says what stands for the word in each case.
-use mathlib.Core.Path.{_∙_, ap}
+use mathlib.Core.Path.{_∙_}
 use native.Mathlib.Omega.{arith}
 use Rattle.room.specs.Parts.{apart-part}
 use Rattle.room.proofs.Word.{same-fits, same-full, other-fits, other-full}

@@ -2,8 +2,6 @@ use borrow.Author.Needs.{needs}
 use Rattle.children.proofs.Radices.{right-closed, right-opened}
 use Rattle.children.proofs.pick.picks_of_t.Statement.{statement}
 use Rattle.children.proofs.pick.picks_of_t.Tie as tie
-use Rattle.children.proofs.pick.picks_of_t.Reads as reads
-use Rattle.children.proofs.pick.picks_of_t.Lts as lts
 
 -- src/pick.rt:30:58
 add-result : tie.Need-add-result

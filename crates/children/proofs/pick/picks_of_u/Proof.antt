@@ -2,8 +2,6 @@ use borrow.Author.Needs.{needs}
 use Rattle.children.proofs.Radices.{left-closed, left-opened}
 use Rattle.children.proofs.pick.picks_of_u.Statement.{statement}
 use Rattle.children.proofs.pick.picks_of_u.Tie as tie
-use Rattle.children.proofs.pick.picks_of_u.Reads as reads
-use Rattle.children.proofs.pick.picks_of_u.Lts as lts
 
 -- src/pick.rt:41:57
 add-result : tie.Need-add-result

@@ -23,6 +23,15 @@ add-to c = search needs
 add-to-2 : tie.Need-add-to-2
 add-to-2 c = search needs
 
+add-aside : tie.Need-add-aside
+add-aside c = search needs
+
+mul-aside : tie.Need-mul-aside
+mul-aside c = search needs
+
+add-aside-2 : tie.Need-add-aside-2
+add-aside-2 c = search needs
+
 join-requires : tie.Need-join-requires
 join-requires c κs = join-asked (c .before .before .before .before .before .before .before .before .pre .1) (omega (arith, c .before .before .before .before .if1 .left)) (omega (arith, c .before .before .if3 .left)) (c .before .rest-of .ensures)
 
@@ -45,6 +54,9 @@ join-pile-spec =
     rest-of-requires
     add-to
     add-to-2
+    add-aside
+    mul-aside
+    add-aside-2
     join-requires
     told-of-requires
     same-length

@@ -38,6 +38,15 @@ add-to c = search needs
 add-to-2 : tie.Need-add-to-2
 add-to-2 c = search needs
 
+add-aside : tie.Need-add-aside
+add-aside c = search needs
+
+mul-aside : tie.Need-mul-aside
+mul-aside c = search needs
+
+add-aside-2 : tie.Need-add-aside-2
+add-aside-2 c = search needs
+
 take-step-requires : tie.Need-take-step-requires
 take-step-requires c κs = step-asked (c .before .before .before .before .before .before .before .before .before .pre .here) (omega (arith, c .before .before .before .before .before .if2 .left)) (c .before .subject-of .ensures)
 
@@ -65,6 +74,9 @@ step-on-spec =
     subject-of-requires
     add-to
     add-to-2
+    add-aside
+    mul-aside
+    add-aside-2
     take-step-requires
     told-of-requires
     same-length

@@ -1,12 +1,8 @@
 use Rattle.rows.specs.Wrote.{wrote-length}
 use Rattle.rows.proofs.Binding.{bindings-parts, value-parts, last-full, last-written}
-use native.Mathlib.Omega.{arith}
 use borrow.Author.Needs.{needs}
 use Rattle.rows.proofs.bind.bind_last.Statement.{statement}
 use Rattle.rows.proofs.bind.bind_last.Tie as tie
-use Rattle.rows.proofs.bind.bind_last.Reads as reads
-use Rattle.rows.proofs.bind.bind_last.Lts as lts
-use Rattle.room.proofs.copy.Reads as copy-reads
 
 -- src/bind.rt:75:14
 add-at : tie.Need-add-at

@@ -4,10 +4,6 @@ use native.Mathlib.Omega.{arith}
 use borrow.Author.Needs.{needs}
 use Rattle.rows.proofs.bind.finish.Statement.{statement}
 use Rattle.rows.proofs.bind.finish.Tie as tie
-use Rattle.rows.proofs.bind.finish.Reads as reads
-use Rattle.rows.proofs.bind.finish.Lts as lts
-use Rattle.rows.proofs.bind.bind_pending.Reads as bind-pending-reads
-use Rattle.rows.proofs.bind.finish_pile.Reads as finish-pile-reads
 
 -- src/bind.rt:168:55
 add-bind-pending : tie.Need-add-bind-pending

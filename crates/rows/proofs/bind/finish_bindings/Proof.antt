@@ -4,10 +4,6 @@ use native.Mathlib.Omega.{arith}
 use borrow.Author.Needs.{needs}
 use Rattle.rows.proofs.bind.finish_bindings.Statement.{statement}
 use Rattle.rows.proofs.bind.finish_bindings.Tie as tie
-use Rattle.rows.proofs.bind.finish_bindings.Reads as reads
-use Rattle.rows.proofs.bind.finish_bindings.Lts as lts
-use Rattle.rows.proofs.bind.bind_last.Reads as bind-last-reads
-use Rattle.rows.proofs.header.seal.Reads as seal-reads
 
 -- src/bind.rt:106:17
 add-start : tie.Need-add-start

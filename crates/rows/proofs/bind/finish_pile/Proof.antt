@@ -1,32 +1,27 @@
 use Rattle.rows.proofs.Finishing.{others-parts, pile-next, pile-finished, pile-full}
-use native.Mathlib.Omega.{arith}
 use borrow.Author.Needs.{needs}
 use Rattle.rows.proofs.bind.finish_pile.Statement.{statement}
 use Rattle.rows.proofs.bind.finish_pile.Tie as tie
-use Rattle.rows.proofs.bind.finish_pile.Reads as reads
-use Rattle.rows.proofs.bind.finish_pile.Lts as lts
-use Rattle.rows.proofs.bind.finish_bindings.Reads as finish-bindings-reads
-use Rattle.rows.proofs.pile.replace_entries.Reads as replace-entries-reads
 
 -- src/bind.rt:134:14
 add-at : tie.Need-add-at
 add-at c = search needs
 
 -- src/bind.rt:144:9
-add-replace-entries : tie.Need-add-replace-entries
-add-replace-entries c = search needs
+add-replace-others : tie.Need-add-replace-others
+add-replace-others c = search needs
 
 -- src/bind.rt:144:9
-add-replace-entries-2 : tie.Need-add-replace-entries-2
-add-replace-entries-2 c = search needs
+add-replace-others-2 : tie.Need-add-replace-others-2
+add-replace-others-2 c = search needs
 
 -- src/bind.rt:145:9
-sub-replace-entries : tie.Need-sub-replace-entries
-sub-replace-entries c = search needs
+sub-replace-others : tie.Need-sub-replace-others
+sub-replace-others c = search needs
 
 -- src/bind.rt:135:11
-replace-entries-requires : tie.Need-replace-entries-requires
-replace-entries-requires c κs = others-parts (c .before .before .before .before .pre)
+replace-others-requires : tie.Need-replace-others-requires
+replace-others-requires c κs = others-parts (c .before .before .before .before .pre)
 
 -- src/bind.rt:147:22
 enum-known-k : tie.Need-enum-known-k
@@ -34,7 +29,7 @@ enum-known-k c = search needs
 
 -- src/bind.rt:147:28
 finish-bindings-requires : tie.Need-finish-bindings-requires
-finish-bindings-requires c κs = pile-next (c .before .before .before .before .before .before .before .before .before .before .before .args .arities .now) (c .before .before .before .before .before .before .before .before .before .before .before .pre) (rw (c .before .before .k .given .1) at (c .before .before .before .before .before .before .replace-entries .ensures))
+finish-bindings-requires c κs = pile-next (c .before .before .before .before .before .before .before .before .before .before .before .args .arities .now) (c .before .before .before .before .before .before .before .before .before .before .before .pre) (rw (c .before .before .k .given .1) at (c .before .before .before .before .before .before .replace-others .ensures))
 
 -- src/bind.rt:148:25
 enum-told : tie.Need-enum-told
@@ -46,7 +41,7 @@ same-length c = search needs
 
 -- src/bind.rt:119:1
 returns : tie.Need-returns
-returns c = pile-finished (c .before .before .before .before .before .before .before .before .before .before .before .before .before .before .args .arities .now) (c .before .before .before .before .before .before .before .before .before .before .before .before .before .before .pre) (rw (c .before .before .before .before .before .k .given .1) at (c .before .before .before .before .before .before .before .before .before .replace-entries .ensures)) (c .before .before .finish-bindings .ensures)
+returns c = pile-finished (c .before .before .before .before .before .before .before .before .before .before .before .before .before .before .args .arities .now) (c .before .before .before .before .before .before .before .before .before .before .before .before .before .before .pre) (rw (c .before .before .before .before .before .k .given .1) at (c .before .before .before .before .before .before .before .before .before .replace-others .ensures)) (c .before .before .finish-bindings .ensures)
 
 -- src/bind.rt:119:1
 same-length-2 : tie.Need-same-length-2
@@ -54,17 +49,17 @@ same-length-2 c = search needs
 
 -- src/bind.rt:119:1
 returns-2 : tie.Need-returns-2
-returns-2 c = pile-full (c .before .before .before .before .before .before .before .before .before .args .arities .now) (c .before .before .before .before .before .before .before .before .before .pre) (rw (c .enum-told .given .1) at (c .before .before .before .before .replace-entries .ensures))
+returns-2 c = pile-full (c .before .before .before .before .before .before .before .before .before .args .arities .now) (c .before .before .before .before .before .before .before .before .before .pre) (rw (c .enum-told .given .1) at (c .before .before .before .before .replace-others .ensures))
 
 pub finish-pile-spec : {M : Type 1} → statement M
 finish-pile-spec =
     tie.close
     (tie.spec
     add-at
-    add-replace-entries
-    add-replace-entries-2
-    sub-replace-entries
-    replace-entries-requires
+    add-replace-others
+    add-replace-others-2
+    sub-replace-others
+    replace-others-requires
     enum-known-k
     finish-bindings-requires
     enum-told

@@ -1,17 +1,12 @@
-use Rattle.rows.specs.Only.{Taken, drop-arm-parts, drop-arm, bind-arm-parts, bind-arm, postpone-arm-parts, postpone-arm, decompose-arm-parts, decompose-arm, sides-positive, dead-arm}
-use mathlib.Core.Path.{_≡_, refl, sym, ap, _∙_}
+use Rattle.rows.specs.Only.{drop-arm-parts, drop-arm, bind-arm-parts, bind-arm, postpone-arm-parts, postpone-arm, decompose-arm-parts, decompose-arm, sides-positive, dead-arm}
+use Rattle.rows.specs.Row.{beside-same, finished-beside}
+use Rattle.rows.specs.Singles.{postpone-beside}
+use Rattle.rows.specs.Decomposed.{decompose-beside}
 use native.Mathlib.Omega.{arith}
-use Prim.Native.Nat.{_+_, _-_, _≤_}
+use Prim.Native.Nat.{_-_}
 use borrow.Author.Needs.{needs}
 use Rattle.rows.proofs.child.take_step.Statement.{statement}
 use Rattle.rows.proofs.child.take_step.Tie as tie
-use Rattle.rows.proofs.child.take_step.Reads as reads
-use Rattle.rows.proofs.child.take_step.Lts as lts
-use Rattle.rows.proofs.bind.finish.Reads as finish-reads
-use Rattle.rows.proofs.keep.keep.Reads as keep-reads
-use Rattle.rows.proofs.single.decompose.Reads as decompose-reads
-use Rattle.rows.proofs.single.postpone.Reads as postpone-reads
-use Rattle.rows.proofs.walk.terms_after.Reads as terms-after-reads
 
 -- src/child.rt:32:28
 enum-told : tie.Need-enum-told
@@ -111,7 +106,7 @@ same-length c = search needs
 
 -- src/child.rt:14:1
 returns : tie.Need-returns
-returns c = record { taken = λ st e es node S o n. drop-arm S (c .before .before .before .before .enum-told .given .1) (c .before .before .keep .ensures) o }
+returns c = record { taken = λ st e es node S o n. drop-arm S (c .before .before .before .before .enum-told .given .1) (c .before .before .keep .ensures) o; beside = λ st e es S. finished-beside (c .before .before .keep .ensures) }
 
 -- src/child.rt:14:1
 same-length-2 : tie.Need-same-length-2
@@ -119,7 +114,7 @@ same-length-2 c = search needs
 
 -- src/child.rt:14:1
 returns-2 : tie.Need-returns-2
-returns-2 c = record { taken = λ st e es node S o n. bind-arm S (c .before .before .before .before .enum-told2 .given .1) (c .before .before .finish .ensures) o }
+returns-2 c = record { taken = λ st e es node S o n. bind-arm S (c .before .before .before .before .enum-told2 .given .1) (c .before .before .finish .ensures) o; beside = λ st e es S. finished-beside (c .before .before .finish .ensures) }
 
 -- src/child.rt:14:1
 same-length-3 : tie.Need-same-length-3
@@ -127,7 +122,7 @@ same-length-3 c = search needs
 
 -- src/child.rt:14:1
 returns-3 : tie.Need-returns-3
-returns-3 c = record { taken = λ st e es node S o n. postpone-arm S (c .before .before .before .before .enum-told3 .given .1) (c .before .before .postpone .ensures) o }
+returns-3 c = record { taken = λ st e es node S o n. postpone-arm S (c .before .before .before .before .enum-told3 .given .1) (c .before .before .postpone .ensures) o; beside = λ st e es S. postpone-beside _ (omega (arith, S .held .rows .next-row)) (c .before .before .postpone .ensures) }
 
 -- src/child.rt:14:1
 same-length-4 : tie.Need-same-length-4
@@ -135,15 +130,15 @@ same-length-4 c = search needs
 
 -- src/child.rt:14:1
 returns-4 : tie.Need-returns-4
-returns-4 c = record { taken = λ st e es node S o n. decompose-arm S (c .before .before .before .before .before .before .enum-told4 .given .1) (c .before .before .before .before .terms-after .ensures .0) (c .before .before .decompose .ensures) o }
+returns-4 c = record { taken = λ st e es node S o n. decompose-arm S (c .before .before .before .before .before .before .enum-told4 .given .1) (c .before .before .before .before .terms-after .ensures .0) (c .before .before .decompose .ensures) o; beside = λ st e es S. decompose-beside _ _ (decompose-arm-parts S (c .before .before .before .before .before .before .enum-told4 .given .1)) (c .before .before .decompose .ensures) }
 
 -- src/child.rt:14:1
 returns-5 : tie.Need-returns-5
-returns-5 c = record { taken = λ st e es node S o n. absurd (n _ (c .enum-told5 .given .1)) }
+returns-5 c = record { taken = λ st e es node S o n. absurd (n _ (c .enum-told5 .given .1)); beside = λ st e es S. beside-same }
 
 -- src/child.rt:14:1
 returns-6 : tie.Need-returns-6
-returns-6 c = record { taken = λ st e es node S o n. dead-arm S (c .enum-told6 .given .1) o }
+returns-6 c = record { taken = λ st e es node S o n. dead-arm S (c .enum-told6 .given .1) o; beside = λ st e es S. beside-same }
 
 pub take-step-spec : {M : Type 1} → statement M
 take-step-spec =

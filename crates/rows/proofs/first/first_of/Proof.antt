@@ -1,15 +1,10 @@
 use Rattle.rows.proofs.Firsts.{term-within, first-found, second-length, second-within, length-first}
-use Rattle.rows.proofs.Firsts.{term-within, first-found}
 use lib.Seq.{length-take-le}
-use mathlib.Core.Path.{_≡_, refl, sym, _∙_}
+use mathlib.Core.Path.{sym}
 use native.Mathlib.Omega.{arith}
 use borrow.Author.Needs.{needs}
 use Rattle.rows.proofs.first.first_of.Statement.{statement}
 use Rattle.rows.proofs.first.first_of.Tie as tie
-use Rattle.rows.proofs.first.first_of.Reads as reads
-use Rattle.rows.proofs.first.first_of.Lts as lts
-use Rattle.rows.proofs.step.step_for.Reads as step-for-reads
-use Rattle.rows.proofs.walk.end_of_term.Reads as end-of-term-reads
 
 -- src/first.rt:25:9
 end-of-term-requires : tie.Need-end-of-term-requires

@@ -1,12 +1,7 @@
 use Rattle.rows.specs.First.{header-in}
-use mathlib.Core.Path.{_≡_, refl, sym, _∙_}
-use native.Mathlib.Omega.{arith}
 use borrow.Author.Needs.{needs}
 use Rattle.rows.proofs.first.read_header.Statement.{statement}
 use Rattle.rows.proofs.first.read_header.Tie as tie
-use Rattle.rows.proofs.first.read_header.Reads as reads
-use Rattle.rows.proofs.first.read_header.Lts as lts
-use Rattle.rows.proofs.walk.wide.Reads as wide-reads
 
 -- src/first.rt:60:24
 shared-slice-read-wide : tie.Need-shared-slice-read-wide

@@ -1,11 +1,8 @@
 use Rattle.rows.specs.First.{rest-after}
-use mathlib.Core.Path.{_≡_, refl, sym, _∙_}
-use native.Mathlib.Omega.{arith}
+use mathlib.Core.Path.{refl}
 use borrow.Author.Needs.{needs}
 use Rattle.rows.proofs.first.rest_of.Statement.{statement}
 use Rattle.rows.proofs.first.rest_of.Tie as tie
-use Rattle.rows.proofs.first.rest_of.Reads as reads
-use Rattle.rows.proofs.first.rest_of.Lts as lts
 
 -- src/first.rt:73:14
 add-at : tie.Need-add-at

@@ -1,13 +1,8 @@
 use Rattle.rows.proofs.Firsts.{subject-left, subject-right}
-use mathlib.Core.Path.{_≡_, refl, sym, _∙_}
-use native.Mathlib.Omega.{arith}
+use mathlib.Core.Path.{sym, _∙_}
 use borrow.Author.Needs.{needs}
 use Rattle.rows.proofs.first.subject_of.Statement.{statement}
 use Rattle.rows.proofs.first.subject_of.Tie as tie
-use Rattle.rows.proofs.first.subject_of.Reads as reads
-use Rattle.rows.proofs.first.subject_of.Lts as lts
-use Rattle.rows.proofs.step.word_at.Reads as word-at-reads
-use Rattle.rows.proofs.walk.is_unknown.Reads as is-unknown-reads
 
 -- src/first.rt:45:9
 word-at-requires : tie.Need-word-at-requires

@@ -3,9 +3,6 @@ use Rattle.room.specs.Room.{put}
 use borrow.Author.Needs.{needs}
 use Rattle.rows.proofs.header.seal.Statement.{statement}
 use Rattle.rows.proofs.header.seal.Tie as tie
-use Rattle.rows.proofs.header.seal.Reads as reads
-use Rattle.rows.proofs.header.seal.Lts as lts
-use Rattle.room.proofs.copy_in.Reads as copy-in-reads
 
 -- src/header.rt:25:9
 cast-t5 : tie.Need-cast-t5

@@ -1,17 +1,11 @@
 use Rattle.rows.proofs.Gathering.{Gathering, none-gathered, gathering-long, all-gathered, size-within, entry-passed, kernel-within, members-parts, entry-gathered}
 use Rattle.room.specs.Room.{seg}
 use lib.ListN.{length-take, length-drop}
-use mathlib.Core.Path.{_≡_, refl, sym, ap, _∙_}
+use mathlib.Core.Path.{_≡_, refl}
 use native.Mathlib.Omega.{arith}
-use Prim.Native.Nat.{_+_, _-_, _≤_}
-use borrow.Author.Needs.{needs}
+use Prim.Native.Nat.{_+_, _-_}
 use Rattle.rows.proofs.join.gather.Statement.{statement}
 use Rattle.rows.proofs.join.gather.Tie as tie
-use Rattle.rows.proofs.join.gather.Reads as reads
-use Rattle.rows.proofs.join.gather.Lts as lts
-use Rattle.room.proofs.copy.Reads as copy-reads
-use Rattle.rows.proofs.walk.end_of_term.Reads as end-of-term-reads
-use Rattle.rows.proofs.walk.place_of_kernel.Reads as place-of-kernel-reads
 
 abbrev Inv-loop : tie.InvT-loop
 Inv-loop arities room₀ from n x to end read₀ written₀ room read written = Gathering arities room₀ from n x to room read written × (end ≡ from + n)

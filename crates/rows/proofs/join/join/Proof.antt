@@ -1,16 +1,11 @@
 use Rattle.rows.proofs.Joins.{gather-parts, m-within, long, value-long, joined-dead, joined-names, join-parts, joined-live}
 use Rattle.rows.specs.Finished.{finished-length}
-use mathlib.Core.Path.{_≡_, refl, sym, ap, _∙_}
+use mathlib.Core.Path.{_∙_}
 use native.Mathlib.Omega.{arith}
-use Prim.Native.Nat.{_+_, _-_, _≤_}
+use Prim.Native.Nat.{_-_}
 use borrow.Author.Needs.{needs}
 use Rattle.rows.proofs.join.join.Statement.{statement}
 use Rattle.rows.proofs.join.join.Tie as tie
-use Rattle.rows.proofs.join.join.Reads as reads
-use Rattle.rows.proofs.join.join.Lts as lts
-use Rattle.rows.proofs.bind.finish_pile.Reads as finish-pile-reads
-use Rattle.rows.proofs.join.gather.Reads as gather-reads
-use Rattle.rows.proofs.walk.is_in.Reads as is-in-reads
 
 -- src/join.rt:52:13
 mul-x : tie.Need-mul-x

@@ -5,10 +5,6 @@ use native.Mathlib.Omega.{arith}
 use borrow.Author.Needs.{needs}
 use Rattle.rows.proofs.keep.keep.Statement.{statement}
 use Rattle.rows.proofs.keep.keep.Tie as tie
-use Rattle.rows.proofs.keep.keep.Reads as reads
-use Rattle.rows.proofs.keep.keep.Lts as lts
-use Rattle.rows.proofs.header.seal.Reads as seal-reads
-use Rattle.rows.proofs.keep.keep_rest.Reads as keep-rest-reads
 
 -- src/keep.rt:43:40
 add-keep-rest : tie.Need-add-keep-rest

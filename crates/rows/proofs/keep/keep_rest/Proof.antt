@@ -1,11 +1,7 @@
 use Rattle.rows.proofs.Keeping.{keep-full, front-parts, entry-parts, back-parts, kept-written}
-use native.Mathlib.Omega.{arith}
 use borrow.Author.Needs.{needs}
 use Rattle.rows.proofs.keep.keep_rest.Statement.{statement}
 use Rattle.rows.proofs.keep.keep_rest.Tie as tie
-use Rattle.rows.proofs.keep.keep_rest.Reads as reads
-use Rattle.rows.proofs.keep.keep_rest.Lts as lts
-use Rattle.room.proofs.copy.Reads as copy-reads
 
 -- src/keep.rt:18:13
 add-n : tie.Need-add-n

@@ -7,11 +7,6 @@ use Prim.Native.Nat.{_+_, _-_}
 use borrow.Author.Needs.{needs}
 use Rattle.rows.proofs.pile.replace_entries.Statement.{statement}
 use Rattle.rows.proofs.pile.replace_entries.Tie as tie
-use Rattle.rows.proofs.pile.replace_entries.Reads as reads
-use Rattle.rows.proofs.pile.replace_entries.Lts as lts
-use Rattle.room.proofs.replace.Reads as replace-reads
-use Rattle.rows.proofs.pile.wanted.Reads as wanted-reads
-use Rattle.rows.proofs.walk.end_of_term.Reads as end-of-term-reads
 
 abbrev Inv-loop : tie.InvT-loop
 Inv-loop arities room₀ part from n x by m to capacity end read₀ written₀ room read written = Passing arities room₀ part from n x by m to capacity room read written × (end ≡ from + n)

@@ -2,8 +2,6 @@ use Rattle.rows.specs.Pile.{wants}
 use borrow.Author.Needs.{needs}
 use Rattle.rows.proofs.pile.wanted.Statement.{statement}
 use Rattle.rows.proofs.pile.wanted.Tie as tie
-use Rattle.rows.proofs.pile.wanted.Reads as reads
-use Rattle.rows.proofs.pile.wanted.Lts as lts
 
 -- src/pile.rt:26:26
 enum-told : tie.Need-enum-told

@@ -1,14 +1,8 @@
 use Rattle.rows.proofs.Pairing.{decompose-parts, arguments-written}
-use mathlib.Core.Path.{_≡_, refl, sym, ap, _∙_}
-use native.Mathlib.Omega.{arith}
-use Prim.Native.Nat.{_+_, _-_, _≤_}
+use Prim.Native.Nat.{_-_}
 use borrow.Author.Needs.{needs}
 use Rattle.rows.proofs.single.decompose.Statement.{statement}
 use Rattle.rows.proofs.single.decompose.Tie as tie
-use Rattle.rows.proofs.single.decompose.Reads as reads
-use Rattle.rows.proofs.single.decompose.Lts as lts
-use Rattle.rows.proofs.keep.keep.Reads as keep-reads
-use Rattle.rows.proofs.single.pair_all.Reads as pair-all-reads
 
 -- src/single.rt:103:65
 add-pair-all : tie.Need-add-pair-all

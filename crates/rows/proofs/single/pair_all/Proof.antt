@@ -1,13 +1,8 @@
 use Rattle.rows.proofs.Pairing.{Pairing, none-paired, pairing-long, pairing-room, pair-parts, e-within, g-within, paired-more, all-paired}
-use mathlib.Core.Path.{_≡_, refl, sym, ap, _∙_}
 use native.Mathlib.Omega.{arith}
-use Prim.Native.Nat.{_+_, _-_, _≤_}
-use borrow.Author.Needs.{needs}
+use Prim.Native.Nat.{_-_}
 use Rattle.rows.proofs.single.pair_all.Statement.{statement}
 use Rattle.rows.proofs.single.pair_all.Tie as tie
-use Rattle.rows.proofs.single.pair_all.Reads as reads
-use Rattle.rows.proofs.single.pair_all.Lts as lts
-use Rattle.rows.proofs.single.pair_first.Reads as pair-first-reads
 
 abbrev Inv-loop : tie.InvT-loop
 Inv-loop arities room₀ k left n right m to i₀ l₀ r₀ room i l r = Pairing arities room₀ k left n right m to room i l r

@@ -1,14 +1,9 @@
 use Rattle.rows.proofs.Pairing.{lent, lent-within, left-copy, right-copy, both-copied}
-use mathlib.Core.Path.{_≡_, refl, sym, ap, _∙_}
 use native.Mathlib.Omega.{arith}
-use Prim.Native.Nat.{_+_, _-_, _≤_}
+use Prim.Native.Nat.{_-_}
 use borrow.Author.Needs.{needs}
 use Rattle.rows.proofs.single.pair_first.Statement.{statement}
 use Rattle.rows.proofs.single.pair_first.Tie as tie
-use Rattle.rows.proofs.single.pair_first.Reads as reads
-use Rattle.rows.proofs.single.pair_first.Lts as lts
-use Rattle.room.proofs.copy.Reads as copy-reads
-use Rattle.rows.proofs.walk.end_of_term.Reads as end-of-term-reads
 
 -- src/single.rt:50:17
 add-after : tie.Need-add-after

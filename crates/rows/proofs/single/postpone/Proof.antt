@@ -1,18 +1,11 @@
 use Rattle.rows.proofs.Pairing.{entry-copy, postpone-long, postpone-parts, laid-out}
 use Rattle.rows.proofs.Pairing.{entry-copy, postpone-parts, laid-out}
 use Rattle.rows.specs.Finished.{finished-length}
-use Rattle.room.specs.Room.{length-put}
-use lib.ListN.{length, length-set}
-use mathlib.Core.Path.{_≡_, refl, sym, ap, _∙_}
-use native.Mathlib.Omega.{arith}
-use Prim.Native.Nat.{_+_, _-_, _≤_}
+use mathlib.Core.Path.{_∙_}
+use Prim.Native.Nat.{_-_}
 use borrow.Author.Needs.{needs}
 use Rattle.rows.proofs.single.postpone.Statement.{statement}
 use Rattle.rows.proofs.single.postpone.Tie as tie
-use Rattle.rows.proofs.single.postpone.Reads as reads
-use Rattle.rows.proofs.single.postpone.Lts as lts
-use Rattle.room.proofs.copy.Reads as copy-reads
-use Rattle.rows.proofs.keep.keep.Reads as keep-reads
 
 -- src/single.rt:34:5
 mul-room : tie.Need-mul-room

@@ -1,14 +1,8 @@
 use Rattle.rows.proofs.Steps.{compared-apart, compared-empty, compared-sets, compared-functors}
-use mathlib.Core.Path.{_≡_, refl, sym, _∙_}
-use native.Mathlib.Omega.{arith}
+use mathlib.Core.Path.{sym, _∙_}
 use borrow.Author.Needs.{needs}
 use Rattle.rows.proofs.step.compare.Statement.{statement}
 use Rattle.rows.proofs.step.compare.Tie as tie
-use Rattle.rows.proofs.step.compare.Reads as reads
-use Rattle.rows.proofs.step.compare.Lts as lts
-use Rattle.rows.proofs.step.tails_by_words.Reads as tails-by-words-reads
-use Rattle.rows.proofs.step.word_at.Reads as word-at-reads
-use Rattle.rows.proofs.step.word_of_kernel.Reads as word-of-kernel-reads
 
 -- src/step.rt:70:9
 word-at-requires : tie.Need-word-at-requires

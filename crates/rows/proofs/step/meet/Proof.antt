@@ -1,16 +1,10 @@
 use Rattle.rows.proofs.Steps.{kernel-within, met-inside, met-last, met-elsewhere, met-nowhere}
 use Rattle.rows.specs.Stepping.{kernel-word}
 use lib.Seq.{length-take-le}
-use mathlib.Core.Path.{_≡_, refl, sym, _∙_}
-use native.Mathlib.Omega.{arith}
+use mathlib.Core.Path.{sym, _∙_}
 use borrow.Author.Needs.{needs}
 use Rattle.rows.proofs.step.meet.Statement.{statement}
 use Rattle.rows.proofs.step.meet.Tie as tie
-use Rattle.rows.proofs.step.meet.Reads as reads
-use Rattle.rows.proofs.step.meet.Lts as lts
-use Rattle.rows.proofs.step.word_at.Reads as word-at-reads
-use Rattle.rows.proofs.walk.is_in.Reads as is-in-reads
-use Rattle.rows.proofs.walk.place_of_kernel.Reads as place-of-kernel-reads
 
 -- src/step.rt:52:8
 is-in-requires : tie.Need-is-in-requires

@@ -1,17 +1,8 @@
 use Rattle.rows.proofs.Steps.{two-same, two-different, left-met, right-met, none-met}
-use mathlib.Core.Path.{_≡_, refl, sym, _∙_}
-use native.Mathlib.Omega.{arith}
+use mathlib.Core.Path.{sym, _∙_}
 use borrow.Author.Needs.{needs}
 use Rattle.rows.proofs.step.step_for.Statement.{statement}
 use Rattle.rows.proofs.step.step_for.Tie as tie
-use Rattle.rows.proofs.step.step_for.Reads as reads
-use Rattle.rows.proofs.step.step_for.Lts as lts
-use Rattle.rows.proofs.step.compare.Reads as compare-reads
-use Rattle.rows.proofs.step.meet.Reads as meet-reads
-use Rattle.rows.proofs.step.tails_by_words.Reads as tails-by-words-reads
-use Rattle.rows.proofs.step.word_at.Reads as word-at-reads
-use Rattle.rows.proofs.step.word_of_kernel.Reads as word-of-kernel-reads
-use Rattle.rows.proofs.walk.is_unknown.Reads as is-unknown-reads
 
 -- src/step.rt:87:9
 word-at-requires : tie.Need-word-at-requires

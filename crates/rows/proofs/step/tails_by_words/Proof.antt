@@ -1,14 +1,10 @@
 use Rattle.rows.proofs.Steps.{tails-told}
 use Rattle.search.specs.Classify.{tails-by}
 use borrow.Author.Tests.{eq-eqb, ne-eqb}
-use mathlib.Core.Path.{_≡_, refl, sym, _∙_}
-use native.Mathlib.Omega.{arith}
+use mathlib.Core.Path.{refl, sym, _∙_}
 use borrow.Author.Needs.{needs}
 use Rattle.rows.proofs.step.tails_by_words.Statement.{statement}
 use Rattle.rows.proofs.step.tails_by_words.Tie as tie
-use Rattle.rows.proofs.step.tails_by_words.Reads as reads
-use Rattle.rows.proofs.step.tails_by_words.Lts as lts
-use Rattle.rows.proofs.walk.is_unknown.Reads as is-unknown-reads
 
 -- src/step.rt:32:8
 is-unknown-requires : tie.Need-is-unknown-requires

@@ -1,11 +1,8 @@
 use lib.ListN.{List·getD-eq-default}
-use mathlib.Core.Path.{_≡_, refl, sym, _∙_}
-use native.Mathlib.Omega.{arith}
+use mathlib.Core.Path.{sym}
 use borrow.Author.Needs.{needs}
 use Rattle.rows.proofs.step.word_at.Statement.{statement}
 use Rattle.rows.proofs.step.word_at.Tie as tie
-use Rattle.rows.proofs.step.word_at.Reads as reads
-use Rattle.rows.proofs.step.word_at.Lts as lts
 
 -- src/step.rt:15:16
 mul-result : tie.Need-mul-result

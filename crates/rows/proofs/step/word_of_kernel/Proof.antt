@@ -1,13 +1,7 @@
 use Rattle.rows.specs.Stepping.{kernel-word}
-use mathlib.Core.Path.{_≡_, refl, sym, _∙_}
-use native.Mathlib.Omega.{arith}
 use borrow.Author.Needs.{needs}
 use Rattle.rows.proofs.step.word_of_kernel.Statement.{statement}
 use Rattle.rows.proofs.step.word_of_kernel.Tie as tie
-use Rattle.rows.proofs.step.word_of_kernel.Reads as reads
-use Rattle.rows.proofs.step.word_of_kernel.Lts as lts
-use Rattle.rows.proofs.step.word_at.Reads as word-at-reads
-use Rattle.rows.proofs.walk.place_of_kernel.Reads as place-of-kernel-reads
 
 -- src/step.rt:25:20
 place-of-kernel-requires : tie.Need-place-of-kernel-requires

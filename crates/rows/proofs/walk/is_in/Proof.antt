@@ -3,12 +3,10 @@ use Rattle.rows.specs.Flat.{holds}
 use lib.ListN.{length, drop}
 use native.Mathlib.Omega.{arith}
 use mathlib.Core.Path.{_≡_, refl, sym, _∙_}
-use Prim.Native.Nat.{ℕ, _+_, _*_, _-_, _≤_, _<_}
+use Prim.Native.Nat.{_-_, _≤_}
 use borrow.Author.Needs.{needs}
 use Rattle.rows.proofs.walk.is_in.Statement.{statement}
 use Rattle.rows.proofs.walk.is_in.Tie as tie
-use Rattle.rows.proofs.walk.is_in.Reads as reads
-use Rattle.rows.proofs.walk.is_in.Lts as lts
 
 abbrev Inv-loop : tie.InvT-loop
 Inv-loop words x i₀ i = (holds x words ≡ holds x (drop i words)) × (i ≤ length words)

@@ -1,10 +1,7 @@
 use borrow.Author.Tests.{le-leb, lt-leb}
 use Rattle.terms.specs.Kind.{within}
-use borrow.Author.Needs.{needs}
 use Rattle.rows.proofs.walk.is_unknown.Statement.{statement}
 use Rattle.rows.proofs.walk.is_unknown.Tie as tie
-use Rattle.rows.proofs.walk.is_unknown.Reads as reads
-use Rattle.rows.proofs.walk.is_unknown.Lts as lts
 
 -- src/walk.rt:20:1
 returns : tie.Need-returns

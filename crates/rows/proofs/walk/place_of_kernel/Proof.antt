@@ -3,13 +3,10 @@ use Rattle.terms.specs.Bounds.{edition-one}
 use lib.ListN.{length, drop}
 use native.Mathlib.Omega.{arith}
 use mathlib.Core.Path.{_≡_, refl, sym, _∙_}
-use Prim.Native.Nat.{ℕ, _+_, _*_, _-_, _≤_, _<_}
+use Prim.Native.Nat.{_+_, _*_, _-_, _≤_}
 use borrow.Author.Needs.{needs}
 use Rattle.rows.proofs.walk.place_of_kernel.Statement.{statement}
 use Rattle.rows.proofs.walk.place_of_kernel.Tie as tie
-use Rattle.rows.proofs.walk.place_of_kernel.Reads as reads
-use Rattle.rows.proofs.walk.place_of_kernel.Lts as lts
-use Rattle.rows.proofs.walk.terms_after.Reads as terms-after-reads
 
 abbrev Inv-loop : tie.InvT-loop
 Inv-loop arities words place₀ due₀ place due = (stripped edition-one arities words 0 0 ≡ stripped edition-one arities (drop place words) due place) × (place ≤ length words) × (due ≤ 1 + 255 * place)

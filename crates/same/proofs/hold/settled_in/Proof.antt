@@ -1,9 +1,9 @@
 use mathlib.Core.Path.{_∙_, sym}
 use native.Mathlib.Omega.{arith}
 use borrow.Author.Needs.{needs}
-use Rattle.same.specs.Relabelled.{each-its-own}
+use Rattle.places.specs.Relabelled.{each-its-own}
+use Rattle.places.specs.Ranked.{ranked-cleared}
 use Rattle.same.proofs.Holds.{relabelled-equations}
-use Rattle.same.proofs.Ranking.{ranked-cleared}
 use Rattle.same.proofs.hold.settled_in.Statement.{statement}
 use Rattle.same.proofs.hold.settled_in.Tie as tie
 

@@ -1,7 +1,6 @@
 use mathlib.Core.Path.{sym, _∙_}
 use lib.Seq.{length-take-le}
 use Rattle.same.proofs.Asking.{asked-standings, asked-within, asked-equations, asked-holding}
-use borrow.Author.Needs.{needs}
 use Rattle.same.proofs.hold.values_hold.Statement.{statement}
 use Rattle.same.proofs.hold.values_hold.Tie as tie
 

@@ -3,8 +3,8 @@ use mathlib.Core.Path.{_∙_}
 use native.Mathlib.Omega.{arith}
 use borrow.Author.Needs.{needs}
 use lib.ListN.{length}
-use Rattle.same.specs.Places.{held}
-use Rattle.same.proofs.Meeting.{since-length}
+use Rattle.places.specs.Places.{held}
+use Rattle.places.specs.Since.{since-length}
 use Rattle.same.proofs.Settling.{Passing, passing-start, passing-end, passing-settled, passing-skip, passing-asks, passing-yes, passing-no}
 use Rattle.same.proofs.settle.meet_settled.Statement.{statement}
 use Rattle.same.proofs.settle.meet_settled.Tie as tie

@@ -1,6 +1,6 @@
 use mathlib.Core.Path.{_∙_, sym}
 use native.Mathlib.Omega.{arith}
-use Rattle.same.specs.Places.{held}
+use Rattle.places.specs.Places.{held}
 use Rattle.same.proofs.Settling.{Going, going-start, going-in, going-past, going-settling, going-on}
 use Rattle.same.proofs.settle.settle.Statement.{statement}
 use Rattle.same.proofs.settle.settle.Tie as tie

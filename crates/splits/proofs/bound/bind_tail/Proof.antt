@@ -1,13 +1,9 @@
-use Rattle.splits.proofs.Bounding.{tail-dead, tail-bound, bound-kept}
+use Rattle.splits.proofs.Bounding.{tail-dead, tail-bound}
+use Rattle.splits.specs.Opened.{elsewhere-same}
 use Rattle.room.specs.Room.{seg}
-use mathlib.Core.Path.{refl}
 use borrow.Author.Needs.{needs}
 use Rattle.splits.proofs.bound.bind_tail.Statement.{statement}
 use Rattle.splits.proofs.bound.bind_tail.Tie as tie
-use Rattle.splits.proofs.bound.bind_tail.Reads as reads
-use Rattle.splits.proofs.bound.bind_tail.Lts as lts
-use Rattle.rows.proofs.walk.is_in.Reads as is-in-reads
-use Rattle.splits.proofs.bound.bound.Reads as bound-reads
 
 -- src/bound.rt:57:15
 add-end : tie.Need-add-end
@@ -40,7 +36,7 @@ same-length c = search needs
 -- src/bound.rt:59:9
 returns : tie.Need-returns
 unfolding seg
-returns c = record { makes = λ p name value B. tail-dead B (c .before .is-in .ensures) (c .if1 .taken); kept = λ e. refl }
+returns c = record { makes = λ p name value B. tail-dead B (c .before .is-in .ensures) (c .if1 .taken); kept = elsewhere-same }
 
 -- src/bound.rt:61:5
 bound-requires : tie.Need-bound-requires
@@ -53,7 +49,7 @@ same-length-2 c = search needs
 -- src/bound.rt:40:1
 returns-2 : tie.Need-returns-2
 unfolding seg
-returns-2 c = record { makes = λ p name value B. tail-bound B (c .before .before .before .before .before .is-in .ensures) (c .before .before .before .before .if1 .left) (c .before .before .bound .ensures); kept = bound-kept (c .before .before .before .before .before .before .before .before .before .before .pre .bound) (c .before .before .bound .ensures) }
+returns-2 c = record { makes = λ p name value B. tail-bound B (c .before .before .before .before .before .is-in .ensures) (c .before .before .before .before .if1 .left) (c .before .before .bound .ensures); kept = c .before .before .bound .ensures .kept }
 
 pub bind-tail-spec : {M : Type 1} → statement M
 bind-tail-spec =

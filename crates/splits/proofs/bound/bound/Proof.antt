@@ -1,11 +1,8 @@
 use Rattle.splits.proofs.Bounding.{bound-parts, finish-parts, bound-made, bound-full}
+use Rattle.splits.proofs.Making.{wrote-elsewhere, row-elsewhere}
 use borrow.Author.Needs.{needs}
 use Rattle.splits.proofs.bound.bound.Statement.{statement}
 use Rattle.splits.proofs.bound.bound.Tie as tie
-use Rattle.splits.proofs.bound.bound.Reads as reads
-use Rattle.splits.proofs.bound.bound.Lts as lts
-use Rattle.rows.proofs.bind.finish.Reads as finish-reads
-use Rattle.splits.proofs.equations.equations.Reads as equations-reads
 
 -- src/bound.rt:27:18
 add-stride : tie.Need-add-stride
@@ -49,7 +46,7 @@ same-length c = search needs
 
 -- src/bound.rt:10:1
 returns : tie.Need-returns
-returns c = record { makes = λ p name value B. bound-made B (rw (c .before .before .before .before .before .w .given .1) at (c .before .before .before .before .before .before .before .before .before .equations .ensures)) (c .before .before .finish .ensures) }
+returns c = record { makes = λ p name value B. bound-made B (rw (c .before .before .before .before .before .w .given .1) at (c .before .before .before .before .before .before .before .before .before .equations .ensures)) (c .before .before .finish .ensures); kept = row-elsewhere (c .before .before .before .before .before .before .before .before .before .before .before .before .before .pre .bound .target) (c .before .before .before .before .before .before .before .before .before .equations .ensures) (c .before .before .finish .ensures) }
 
 -- src/bound.rt:10:1
 same-length-2 : tie.Need-same-length-2
@@ -57,7 +54,7 @@ same-length-2 c = search needs
 
 -- src/bound.rt:10:1
 returns-2 : tie.Need-returns-2
-returns-2 c = record { makes = λ p name value B. bound-full B (rw (c .enum-told .given .1) at (c .before .before .before .before .equations .ensures)) }
+returns-2 c = record { makes = λ p name value B. bound-full B (rw (c .enum-told .given .1) at (c .before .before .before .before .equations .ensures)); kept = wrote-elsewhere (c .before .before .before .before .before .before .before .before .pre .bound .target) (c .before .before .before .before .equations .ensures) }
 
 pub bound-spec : {M : Type 1} → statement M
 bound-spec =

@@ -1,14 +1,9 @@
-use Rattle.splits.proofs.Sharing.{header-within, rest-parts, again-parts, again-made}
+use Rattle.splits.proofs.Sharing.{rest-parts, again-parts, again-made}
+use Rattle.splits.proofs.Making.{finished-elsewhere}
 use Rattle.room.specs.Room.{seg}
-use native.Mathlib.Omega.{arith}
 use borrow.Author.Needs.{needs}
 use Rattle.splits.proofs.different.bind_again.Statement.{statement}
 use Rattle.splits.proofs.different.bind_again.Tie as tie
-use Rattle.splits.proofs.different.bind_again.Reads as reads
-use Rattle.splits.proofs.different.bind_again.Lts as lts
-use Rattle.rows.proofs.bind.finish.Reads as finish-reads
-use Rattle.rows.proofs.first.read_header.Reads as read-header-reads
-use Rattle.rows.proofs.first.rest_of.Reads as rest-of-reads
 
 -- src/different.rt:70:16
 add-last : tie.Need-add-last
@@ -51,7 +46,7 @@ same-length c = search needs
 -- src/different.rt:56:1
 returns : tie.Need-returns
 unfolding seg
-returns c = record { makes = λ st name value A. again-made A (c .before .before .before .before .before .read-header .ensures) (c .before .before .before .before .rest-of .ensures) (c .before .before .finish .ensures) }
+returns c = record { makes = λ st name value A. again-made A (c .before .before .before .before .before .read-header .ensures) (c .before .before .before .before .rest-of .ensures) (c .before .before .finish .ensures); kept = λ from scratch T. finished-elsewhere T (c .before .before .finish .ensures) }
 
 pub bind-again-spec : {M : Type 1} → statement M
 bind-again-spec =

@@ -1,14 +1,8 @@
-use Rattle.splits.proofs.Opening.{numbers}
 use Rattle.splits.proofs.Making.{not-large, not-dead, not-names}
-use Rattle.splits.proofs.Twice.{first-parts, second-parts, twice-made, twice-large}
-use native.Mathlib.Omega.{arith}
+use Rattle.splits.proofs.Twice.{first-parts, second-parts, twice-made, twice-kept, twice-large}
 use borrow.Author.Needs.{needs}
 use Rattle.splits.proofs.different.bind_twice.Statement.{statement}
 use Rattle.splits.proofs.different.bind_twice.Tie as tie
-use Rattle.splits.proofs.different.bind_twice.Reads as reads
-use Rattle.splits.proofs.different.bind_twice.Lts as lts
-use Rattle.splits.proofs.bound.bound.Reads as bound-reads
-use Rattle.splits.proofs.different.bind_again.Reads as bind-again-reads
 
 -- src/different.rt:112:18
 add-stride : tie.Need-add-stride
@@ -72,7 +66,7 @@ same-length c = search needs
 
 -- src/different.rt:94:1
 returns : tie.Need-returns
-returns c = record { makes = λ p s r D. twice-made D (c .before .before .before .before .before .before .before .before .bound .ensures) (c .before .before .before .before .enum-told .given .1) (c .before .before .bind-again .ensures) }
+returns c = record { makes = λ p s r D. twice-made D (c .before .before .before .before .before .before .before .before .bound .ensures) (c .before .before .before .before .enum-told .given .1) (c .before .before .bind-again .ensures); kept = twice-kept (c .before .before .before .before .before .before .before .before .before .before .before .before .pre .parts) (c .before .before .before .before .before .before .before .before .bound .ensures) (c .before .before .bind-again .ensures) }
 
 -- src/different.rt:94:1
 same-length-2 : tie.Need-same-length-2
@@ -80,7 +74,7 @@ same-length-2 c = search needs
 
 -- src/different.rt:94:1
 returns-2 : tie.Need-returns-2
-returns-2 c = record { makes = λ p s r D. twice-large D (c .before .before .before .before .bound .ensures) (not-large (c .enum-told2 .given .1)) }
+returns-2 c = record { makes = λ p s r D. twice-large D (c .before .before .before .before .bound .ensures) (not-large (c .enum-told2 .given .1)); kept = c .before .before .before .before .bound .ensures .kept }
 
 -- src/different.rt:94:1
 same-length-3 : tie.Need-same-length-3
@@ -88,7 +82,7 @@ same-length-3 c = search needs
 
 -- src/different.rt:94:1
 returns-3 : tie.Need-returns-3
-returns-3 c = record { makes = λ p s r D. twice-large D (c .before .before .before .before .bound .ensures) (not-dead (c .enum-told3 .given .1)) }
+returns-3 c = record { makes = λ p s r D. twice-large D (c .before .before .before .before .bound .ensures) (not-dead (c .enum-told3 .given .1)); kept = c .before .before .before .before .bound .ensures .kept }
 
 -- src/different.rt:94:1
 same-length-4 : tie.Need-same-length-4
@@ -96,7 +90,7 @@ same-length-4 c = search needs
 
 -- src/different.rt:94:1
 returns-4 : tie.Need-returns-4
-returns-4 c = record { makes = λ p s r D. twice-large D (c .before .before .before .before .bound .ensures) (not-names (c .enum-told4 .given .1)) }
+returns-4 c = record { makes = λ p s r D. twice-large D (c .before .before .before .before .bound .ensures) (not-names (c .enum-told4 .given .1)); kept = c .before .before .before .before .bound .ensures .kept }
 
 pub bind-twice-spec : {M : Type 1} → statement M
 bind-twice-spec =

@@ -1,10 +1,7 @@
-use mathlib.Core.Path.{_≡_, refl, sym, _∙_}
+use mathlib.Core.Path.{sym, _∙_}
 use borrow.Author.Needs.{needs}
 use Rattle.splits.proofs.different.crosses.Statement.{statement}
 use Rattle.splits.proofs.different.crosses.Tie as tie
-use Rattle.splits.proofs.different.crosses.Reads as reads
-use Rattle.splits.proofs.different.crosses.Lts as lts
-use Rattle.rows.proofs.walk.is_in.Reads as is-in-reads
 
 -- src/different.rt:43:8
 is-in-requires : tie.Need-is-in-requires

@@ -1,17 +1,12 @@
 use Rattle.splits.proofs.Opening.{numbers}
-use Rattle.splits.proofs.Renewing.{joined-elsewhere, joined-within, different-dead, different-names, different-parts, different-made, different-live}
+use Rattle.splits.proofs.Renewing.{joined-elsewhere, joined-within, different-dead, different-names, different-parts, different-made}
+use Rattle.splits.specs.Opened.{elsewhere-next}
 use Rattle.room.specs.Room.{seg}
 use native.Mathlib.Omega.{arith}
-use mathlib.Core.Path.{_≡_, refl}
-use Prim.Native.Nat.{ℕ}
+use mathlib.Core.Path.{refl}
 use borrow.Author.Needs.{needs}
 use Rattle.splits.proofs.different.different.Statement.{statement}
 use Rattle.splits.proofs.different.different.Tie as tie
-use Rattle.splits.proofs.different.different.Reads as reads
-use Rattle.splits.proofs.different.different.Lts as lts
-use Rattle.splits.proofs.different.crosses.Reads as crosses-reads
-use Rattle.splits.proofs.different.lay_joined.Reads as lay-joined-reads
-use Rattle.splits.proofs.different.renew.Reads as renew-reads
 
 -- src/different.rt:169:18
 add-stride : tie.Need-add-stride
@@ -120,7 +115,7 @@ same-length c = search needs
 -- src/different.rt:178:9
 returns : tie.Need-returns
 unfolding seg
-returns c = record { makes = λ p D k. different-dead D k (c .before .before .before .before .before .before .before .before .before .lay-joined .ensures) refl refl (c .before .crosses .ensures) (c .if1 .taken); kept = λ p D k e. joined-elsewhere D k (c .before .before .before .before .before .before .before .before .before .lay-joined .ensures) }
+returns c = record { makes = λ p D k. different-dead D k (c .before .before .before .before .before .before .before .before .before .lay-joined .ensures) refl refl (c .before .crosses .ensures) (c .if1 .taken); kept = λ p D k. joined-elsewhere D k (c .before .before .before .before .before .before .before .before .before .lay-joined .ensures) }
 
 -- src/different.rt:181:9
 same-length-2 : tie.Need-same-length-2
@@ -129,7 +124,7 @@ same-length-2 c = search needs
 -- src/different.rt:181:9
 returns-2 : tie.Need-returns-2
 unfolding seg
-returns-2 c = record { makes = λ p D k. different-names D k (c .before .before .before .before .before .before .before .before .before .before .lay-joined .ensures) refl refl (c .before .before .crosses .ensures) (c .before .if1 .left) (c .if2 .taken); kept = λ p D k e. let z : _≡_ {A = ℕ} 0 1 = cc in absurd (omega arith) }
+returns-2 c = record { makes = λ p D k. different-names D k (c .before .before .before .before .before .before .before .before .before .before .lay-joined .ensures) refl refl (c .before .before .crosses .ensures) (c .before .if1 .left) (c .if2 .taken); kept = λ p D k. joined-elsewhere D k (c .before .before .before .before .before .before .before .before .before .before .lay-joined .ensures) }
 
 -- src/different.rt:183:5
 renew-requires : tie.Need-renew-requires
@@ -143,7 +138,7 @@ same-length-3 c = search needs
 -- src/different.rt:155:1
 returns-3 : tie.Need-returns-3
 unfolding seg
-returns-3 c = record { makes = λ p D k. different-made D k (c .before .before .before .before .before .before .before .before .before .before .before .before .before .before .lay-joined .ensures) refl refl (c .before .before .before .before .before .before .crosses .ensures) (c .before .before .before .before .before .if1 .left) (c .before .before .before .before .if2 .left) (c .before .before .renew .ensures); kept = λ p D k e. absurd (different-live D k (c .before .before .before .before .before .before .before .before .before .before .before .before .before .before .lay-joined .ensures) refl refl (c .before .before .before .before .before .before .crosses .ensures) (c .before .before .before .before .before .if1 .left) (c .before .before .before .before .if2 .left) (c .before .before .renew .ensures) e) }
+returns-3 c = record { makes = λ p D k. different-made D k (c .before .before .before .before .before .before .before .before .before .before .before .before .before .before .lay-joined .ensures) refl refl (c .before .before .before .before .before .before .crosses .ensures) (c .before .before .before .before .before .if1 .left) (c .before .before .before .before .if2 .left) (c .before .before .renew .ensures); kept = λ p D k. elsewhere-next (joined-elsewhere D k (c .before .before .before .before .before .before .before .before .before .before .before .before .before .before .lay-joined .ensures)) (c .before .before .renew .ensures .kept) }
 
 pub different-spec : {M : Type 1} → statement M
 different-spec =

@@ -4,9 +4,6 @@ use native.Mathlib.Omega.{arith}
 use borrow.Author.Needs.{needs}
 use Rattle.splits.proofs.different.lay_joined.Statement.{statement}
 use Rattle.splits.proofs.different.lay_joined.Tie as tie
-use Rattle.splits.proofs.different.lay_joined.Reads as reads
-use Rattle.splits.proofs.different.lay_joined.Lts as lts
-use Rattle.splits.proofs.tails.tail_members.Reads as tail-members-reads
 
 -- src/different.rt:26:18
 add-stride : tie.Need-add-stride

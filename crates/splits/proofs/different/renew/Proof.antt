@@ -1,11 +1,8 @@
-use Rattle.splits.proofs.Renewing.{share-parts, renew-large, renew-parts, renew-made}
+use Rattle.splits.proofs.Renewing.{share-elsewhere, renew-large, renew-parts, renew-made}
+use Rattle.splits.specs.Opened.{elsewhere-next}
 use borrow.Author.Needs.{needs}
 use Rattle.splits.proofs.different.renew.Statement.{statement}
 use Rattle.splits.proofs.different.renew.Tie as tie
-use Rattle.splits.proofs.different.renew.Reads as reads
-use Rattle.splits.proofs.different.renew.Lts as lts
-use Rattle.splits.proofs.different.bind_twice.Reads as bind-twice-reads
-use Rattle.splits.proofs.different.share.Reads as share-reads
 
 -- src/different.rt:145:13
 add-u : tie.Need-add-u
@@ -33,7 +30,7 @@ same-length c = search needs
 
 -- src/different.rt:128:1
 returns : tie.Need-returns
-returns c = record { makes = λ l₀ p s r R. renew-made R (c .before .before .before .before .before .before .before .before .before .share .ensures) _ (c .before .before .before .before .before .m .given .1) (c .before .before .bind-twice .ensures) }
+returns c = record { makes = λ l₀ p s r R. renew-made R (c .before .before .before .before .before .before .before .before .before .share .ensures) _ (c .before .before .before .before .before .m .given .1) (c .before .before .bind-twice .ensures); kept = elsewhere-next (share-elsewhere (c .before .before .before .before .before .before .before .before .before .before .before .before .before .before .pre .parts) (c .before .before .before .before .before .before .before .before .before .share .ensures)) (c .before .before .bind-twice .ensures .kept) }
 
 -- src/different.rt:128:1
 same-length-2 : tie.Need-same-length-2
@@ -41,7 +38,7 @@ same-length-2 c = search needs
 
 -- src/different.rt:128:1
 returns-2 : tie.Need-returns-2
-returns-2 c = record { makes = λ l₀ p s r R. renew-large R (c .before .before .before .before .share .ensures) (c .enum-told .given .1) }
+returns-2 c = record { makes = λ l₀ p s r R. renew-large R (c .before .before .before .before .share .ensures) (c .enum-told .given .1); kept = share-elsewhere (c .before .before .before .before .before .before .before .before .before .pre .parts) (c .before .before .before .before .share .ensures) }
 
 pub renew-spec : {M : Type 1} → statement M
 renew-spec =

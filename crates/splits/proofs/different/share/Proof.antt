@@ -3,9 +3,6 @@ use native.Mathlib.Omega.{arith}
 use borrow.Author.Needs.{needs}
 use Rattle.splits.proofs.different.share.Statement.{statement}
 use Rattle.splits.proofs.different.share.Tie as tie
-use Rattle.splits.proofs.different.share.Reads as reads
-use Rattle.splits.proofs.different.share.Lts as lts
-use Rattle.room.proofs.replace.Reads as replace-reads
 
 -- src/different.rt:83:18
 add-stride : tie.Need-add-stride
@@ -31,13 +28,13 @@ add-second c = search needs
 add-value : tie.Need-add-value
 add-value c = search needs
 
--- src/different.rt:87:17
-add-word : tie.Need-add-word
-add-word c = search needs
-
 -- src/different.rt:87:16
 cast-word : tie.Need-cast-word
 cast-word c = search needs
+
+-- src/different.rt:87:17
+add-word : tie.Need-add-word
+add-word c = search needs
 
 -- src/different.rt:88:10
 add-room : tie.Need-add-room
@@ -93,8 +90,8 @@ share-spec =
     add-first-3
     add-second
     add-value
-    add-word
     cast-word
+    add-word
     add-room
     mul-room
     slice-write-room

@@ -1,12 +1,10 @@
 use Rattle.splits.proofs.Meeting.{first-within, second-parts, equation-full, equation-written}
-use Rattle.rows.specs.Wrote.{further, done-fits, done-length}
+use Rattle.room.specs.Fitting.{further}
+use Rattle.rows.specs.Wrote.{done-fits, done-length}
 use native.Mathlib.Omega.{arith}
 use borrow.Author.Needs.{needs}
 use Rattle.splits.proofs.equations.equation.Statement.{statement}
 use Rattle.splits.proofs.equations.equation.Tie as tie
-use Rattle.splits.proofs.equations.equation.Reads as reads
-use Rattle.splits.proofs.equations.equation.Lts as lts
-use Rattle.splits.proofs.equations.side.Reads as side-reads
 
 -- src/equations.rt:37:11
 side-requires : tie.Need-side-requires

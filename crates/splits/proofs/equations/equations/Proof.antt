@@ -1,12 +1,10 @@
 use Rattle.splits.proofs.Equating.{first-within, second-parts, first-full, equations-written}
-use Rattle.rows.specs.Wrote.{further, done-fits, done-length}
+use Rattle.room.specs.Fitting.{further}
+use Rattle.rows.specs.Wrote.{done-fits, done-length}
 use native.Mathlib.Omega.{arith}
 use borrow.Author.Needs.{needs}
 use Rattle.splits.proofs.equations.equations.Statement.{statement}
 use Rattle.splits.proofs.equations.equations.Tie as tie
-use Rattle.splits.proofs.equations.equations.Reads as reads
-use Rattle.splits.proofs.equations.equations.Lts as lts
-use Rattle.splits.proofs.equations.equations_of.Reads as equations-of-reads
 
 -- src/equations.rt:140:11
 equations-of-requires : tie.Need-equations-of-requires

@@ -2,14 +2,10 @@ use borrow.Author.Needs.{needs}
 use Rattle.splits.proofs.Meeting.{Meeting, none-met, numbers, pick-passed, pair-parts, pair-met, pair-full, all-met}
 use Rattle.rows.specs.Wrote.{wrote-length}
 use native.Mathlib.Omega.{arith}
-use mathlib.Core.Path.{_≡_, refl, sym, _∙_, ap}
-use Prim.Native.Nat.{_+_, _-_}
+use mathlib.Core.Path.{_∙_}
+use Prim.Native.Nat.{_-_}
 use Rattle.splits.proofs.equations.equations_of.Statement.{statement}
 use Rattle.splits.proofs.equations.equations_of.Tie as tie
-use Rattle.splits.proofs.equations.equations_of.Reads as reads
-use Rattle.splits.proofs.equations.equations_of.Lts as lts
-use Rattle.rows.proofs.walk.wide.Reads as wide-reads
-use Rattle.splits.proofs.equations.pair.Reads as pair-reads
 
 abbrev Inv-loop : tie.InvT-loop
 Inv-loop room₀ body turned owns n others count picks x by m to capacity i₀ written₀ room i written = Meeting room₀ body turned owns n others count picks x by m to capacity room i written

@@ -1,9 +1,6 @@
 use borrow.Author.Needs.{needs}
 use Rattle.splits.proofs.equations.pair.Statement.{statement}
 use Rattle.splits.proofs.equations.pair.Tie as tie
-use Rattle.splits.proofs.equations.pair.Reads as reads
-use Rattle.splits.proofs.equations.pair.Lts as lts
-use Rattle.splits.proofs.equations.equation.Reads as equation-reads
 
 -- src/equations.rt:66:9
 equation-requires : tie.Need-equation-requires

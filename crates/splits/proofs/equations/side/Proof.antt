@@ -1,12 +1,7 @@
 use Rattle.splits.proofs.Meeting.{side-parts, side-written}
-use native.Mathlib.Omega.{arith}
 use borrow.Author.Needs.{needs}
 use Rattle.splits.proofs.equations.side.Statement.{statement}
 use Rattle.splits.proofs.equations.side.Tie as tie
-use Rattle.splits.proofs.equations.side.Reads as reads
-use Rattle.splits.proofs.equations.side.Lts as lts
-use Rattle.room.proofs.replace.Reads as replace-reads
-use Rattle.rows.proofs.walk.wide.Reads as wide-reads
 
 -- src/equations.rt:17:18
 mul-wide : tie.Need-mul-wide

@@ -5,9 +5,6 @@ use mathlib.Core.Path.{refl}
 use borrow.Author.Needs.{needs}
 use Rattle.splits.proofs.kept.lay_entry.Statement.{statement}
 use Rattle.splits.proofs.kept.lay_entry.Tie as tie
-use Rattle.splits.proofs.kept.lay_entry.Reads as reads
-use Rattle.splits.proofs.kept.lay_entry.Lts as lts
-use Rattle.splits.proofs.tails.tail_members.Reads as tail-members-reads
 
 -- src/kept.rt:69:18
 add-stride : tie.Need-add-stride

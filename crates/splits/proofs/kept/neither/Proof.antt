@@ -1,18 +1,13 @@
 use Rattle.splits.proofs.Opening.{numbers}
-use Rattle.splits.proofs.Keeping.{neither-live, s-place, s-apart, plain-parts, plain, written-within, tails-parts, last-written, news-full, last-full, neither-parts, neither-made}
-use Rattle.splits.proofs.Making.{never-dead}
-use Rattle.rows.specs.Wrote.{further, done-fits, done-length}
+use Rattle.splits.proofs.Keeping.{s-place, s-apart, plain-parts, plain, written-within, tails-parts, last-written, news-full, last-full, neither-parts, neither-made}
+use Rattle.splits.proofs.Making.{child-made}
+use Rattle.room.specs.Fitting.{further}
+use Rattle.rows.specs.Wrote.{done-fits, done-length}
 use native.Mathlib.Omega.{arith}
 use mathlib.Core.Path.{refl}
-use Prim.Native.Nat.{_≤_}
 use borrow.Author.Needs.{needs}
 use Rattle.splits.proofs.kept.neither.Statement.{statement}
 use Rattle.splits.proofs.kept.neither.Tie as tie
-use Rattle.splits.proofs.kept.neither.Reads as reads
-use Rattle.splits.proofs.kept.neither.Lts as lts
-use Rattle.rows.proofs.keep.keep.Reads as keep-reads
-use Rattle.splits.proofs.equations.equations.Reads as equations-reads
-use Rattle.splits.proofs.kept.tails_equation.Reads as tails-equation-reads
 
 -- src/kept.rt:45:18
 add-stride : tie.Need-add-stride
@@ -103,7 +98,7 @@ same-length c = search needs
 -- src/kept.rt:31:1
 returns : tie.Need-returns
 unfolding further
-returns c = never-dead neither-live (λ p D k. let h = s-place D in neither-made D k (last-written D (plain D _ (s-place D) (s-apart D 1 (omega arith)) refl (rw (c .before .before .before .before .before .before .before .before .before .before .before .before .w .given .1) at (c .before .before .before .before .before .before .before .before .before .before .before .before .before .before .before .before .equations .ensures))) (rw (c .before .before .before .before .before .v .given .1) at (c .before .before .before .before .before .before .before .before .before .tails-equation .ensures))) _ (omega arith) (s-apart D 0 (omega arith)) (c .before .before .keep .ensures))
+returns c = child-made (λ p D k. let h = s-place D in neither-made D k (last-written D (plain D _ (s-place D) (s-apart D 1 (omega arith)) refl (rw (c .before .before .before .before .before .before .before .before .before .before .before .before .w .given .1) at (c .before .before .before .before .before .before .before .before .before .before .before .before .before .before .before .before .equations .ensures))) (rw (c .before .before .before .before .before .v .given .1) at (c .before .before .before .before .before .before .before .before .before .tails-equation .ensures))) _ (omega arith) (s-apart D 0 (omega arith)) (c .before .before .keep .ensures))
 
 -- src/kept.rt:31:1
 same-length-2 : tie.Need-same-length-2
@@ -112,7 +107,7 @@ same-length-2 c = search needs
 -- src/kept.rt:31:1
 returns-2 : tie.Need-returns-2
 unfolding further
-returns-2 c = never-dead neither-live (λ p D k. last-full D k (last-written D (plain D _ (s-place D) (s-apart D 1 (omega arith)) refl (rw (c .before .before .before .before .before .before .before .w .given .1) at (c .before .before .before .before .before .before .before .before .before .before .before .equations .ensures))) (rw (c .enum-told .given .1) at (c .before .before .before .before .tails-equation .ensures))))
+returns-2 c = child-made (λ p D k. last-full D k (last-written D (plain D _ (s-place D) (s-apart D 1 (omega arith)) refl (rw (c .before .before .before .before .before .before .before .w .given .1) at (c .before .before .before .before .before .before .before .before .before .before .before .equations .ensures))) (rw (c .enum-told .given .1) at (c .before .before .before .before .tails-equation .ensures))))
 
 -- src/kept.rt:31:1
 same-length-3 : tie.Need-same-length-3
@@ -120,7 +115,7 @@ same-length-3 c = search needs
 
 -- src/kept.rt:31:1
 returns-3 : tie.Need-returns-3
-returns-3 c = never-dead neither-live (λ p D k. news-full D k (plain D _ (s-place D) (s-apart D 1 (omega arith)) refl (rw (c .enum-told2 .given .1) at (c .before .before .before .before .equations .ensures))))
+returns-3 c = child-made (λ p D k. news-full D k (plain D _ (s-place D) (s-apart D 1 (omega arith)) refl (rw (c .enum-told2 .given .1) at (c .before .before .before .before .equations .ensures))))
 
 pub neither-spec : {M : Type 1} → statement M
 neither-spec =

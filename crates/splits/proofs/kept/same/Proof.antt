@@ -1,19 +1,13 @@
 use Rattle.splits.proofs.Opening.{numbers}
-use Rattle.splits.proofs.Keeping.{same-live, s-place, s-apart, plain-parts, plain, keep-parts}
+use Rattle.splits.proofs.Keeping.{s-place, s-apart, plain-parts, plain, keep-parts}
 use Rattle.splits.proofs.Entering.{due-laid, entry-within, entry-apart, same-full, same-made}
-use Rattle.splits.proofs.Making.{never-dead}
+use Rattle.splits.proofs.Making.{child-made}
 use Rattle.splits.specs.Opened.{news}
 use native.Mathlib.Omega.{arith}
 use mathlib.Core.Path.{refl}
-use Prim.Native.Nat.{_≤_}
 use borrow.Author.Needs.{needs}
 use Rattle.splits.proofs.kept.same.Statement.{statement}
 use Rattle.splits.proofs.kept.same.Tie as tie
-use Rattle.splits.proofs.kept.same.Reads as reads
-use Rattle.splits.proofs.kept.same.Lts as lts
-use Rattle.rows.proofs.keep.keep.Reads as keep-reads
-use Rattle.splits.proofs.equations.equations.Reads as equations-reads
-use Rattle.splits.proofs.kept.lay_entry.Reads as lay-entry-reads
 
 -- src/kept.rt:102:18
 add-stride : tie.Need-add-stride
@@ -81,7 +75,7 @@ same-length c = search needs
 
 -- src/kept.rt:88:1
 returns : tie.Need-returns
-returns c = never-dead same-live (λ p D k. same-made D (c .before .before .before .before .before .before .before .before .before .before .before .before .before .before .lay-entry .ensures) k (plain (due-laid D (c .before .before .before .before .before .before .before .before .before .before .before .before .before .before .lay-entry .ensures)) _ (s-place (due-laid D (c .before .before .before .before .before .before .before .before .before .before .before .before .before .before .lay-entry .ensures))) (s-apart (due-laid D (c .before .before .before .before .before .before .before .before .before .before .before .before .before .before .lay-entry .ensures)) 1 (omega arith)) refl (rw (c .before .before .before .before .before .w .given .1) at (c .before .before .before .before .before .before .before .before .before .equations .ensures))) (c .before .before .keep .ensures))
+returns c = child-made (λ p D k. same-made D (c .before .before .before .before .before .before .before .before .before .before .before .before .before .before .lay-entry .ensures) k (plain (due-laid D (c .before .before .before .before .before .before .before .before .before .before .before .before .before .before .lay-entry .ensures)) _ (s-place (due-laid D (c .before .before .before .before .before .before .before .before .before .before .before .before .before .before .lay-entry .ensures))) (s-apart (due-laid D (c .before .before .before .before .before .before .before .before .before .before .before .before .before .before .lay-entry .ensures)) 1 (omega arith)) refl (rw (c .before .before .before .before .before .w .given .1) at (c .before .before .before .before .before .before .before .before .before .equations .ensures))) (c .before .before .keep .ensures))
 
 -- src/kept.rt:88:1
 same-length-2 : tie.Need-same-length-2
@@ -89,7 +83,7 @@ same-length-2 c = search needs
 
 -- src/kept.rt:88:1
 returns-2 : tie.Need-returns-2
-returns-2 c = never-dead same-live (λ p D k. same-full D (c .before .before .before .before .before .before .before .before .before .lay-entry .ensures) k (plain (due-laid D (c .before .before .before .before .before .before .before .before .before .lay-entry .ensures)) _ (s-place (due-laid D (c .before .before .before .before .before .before .before .before .before .lay-entry .ensures))) (s-apart (due-laid D (c .before .before .before .before .before .before .before .before .before .lay-entry .ensures)) 1 (omega arith)) refl (rw (c .enum-told .given .1) at (c .before .before .before .before .equations .ensures))))
+returns-2 c = child-made (λ p D k. same-full D (c .before .before .before .before .before .before .before .before .before .lay-entry .ensures) k (plain (due-laid D (c .before .before .before .before .before .before .before .before .before .lay-entry .ensures)) _ (s-place (due-laid D (c .before .before .before .before .before .before .before .before .before .lay-entry .ensures))) (s-apart (due-laid D (c .before .before .before .before .before .before .before .before .before .lay-entry .ensures)) 1 (omega arith)) refl (rw (c .enum-told .given .1) at (c .before .before .before .before .equations .ensures))))
 
 pub same-spec : {M : Type 1} → statement M
 same-spec =

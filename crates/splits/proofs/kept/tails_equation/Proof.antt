@@ -1,11 +1,7 @@
 use Rattle.splits.proofs.Keeping.{tails-full, s-parts, r-parts, tails-written}
-use native.Mathlib.Omega.{arith}
 use borrow.Author.Needs.{needs}
 use Rattle.splits.proofs.kept.tails_equation.Statement.{statement}
 use Rattle.splits.proofs.kept.tails_equation.Tie as tie
-use Rattle.splits.proofs.kept.tails_equation.Reads as reads
-use Rattle.splits.proofs.kept.tails_equation.Lts as lts
-use Rattle.room.proofs.copy.Reads as copy-reads
 
 -- src/kept.rt:19:16
 add-body : tie.Need-add-body

@@ -1,13 +1,9 @@
 use borrow.Author.Needs.{needs}
-use Rattle.splits.proofs.Noting.{Noting, none-noted, numbers, same-length as long, note-last, word-passed, kernel-noted, mark-noted}
+use Rattle.splits.proofs.Noting.{Noting, none-noted, numbers, note-last, word-passed, kernel-noted, mark-noted}
 use native.Mathlib.Omega.{arith}
-use mathlib.Core.Path.{_≡_, refl, sym, _∙_, ap}
-use Prim.Native.Nat.{_+_, _-_}
+use Prim.Native.Nat.{_-_}
 use Rattle.splits.proofs.members.note_members.Statement.{statement}
 use Rattle.splits.proofs.members.note_members.Tie as tie
-use Rattle.splits.proofs.members.note_members.Reads as reads
-use Rattle.splits.proofs.members.note_members.Lts as lts
-use Rattle.rows.proofs.walk.terms_after.Reads as terms-after-reads
 
 abbrev Inv-loop : tie.InvT-loop
 Inv-loop arities room₀ body first end to place₀ due₀ n₀ room place due n = Noting arities room₀ body first end to room place due n

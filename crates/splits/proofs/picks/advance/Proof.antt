@@ -1,11 +1,7 @@
 use Rattle.splits.specs.Digits.{advanced-second, first-parts, advanced-first}
-use native.Mathlib.Omega.{arith}
 use borrow.Author.Needs.{needs}
 use Rattle.splits.proofs.picks.advance.Statement.{statement}
 use Rattle.splits.proofs.picks.advance.Tie as tie
-use Rattle.splits.proofs.picks.advance.Reads as reads
-use Rattle.splits.proofs.picks.advance.Lts as lts
-use Rattle.splits.proofs.picks.advance_of.Reads as advance-of-reads
 
 -- src/picks.rt:56:36
 add-advance-of : tie.Need-add-advance-of

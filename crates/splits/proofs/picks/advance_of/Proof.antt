@@ -1,12 +1,9 @@
 use borrow.Author.Needs.{needs}
 use Rattle.splits.proofs.Counting.{Advancing, none-advanced, counts, digit-below, digit-advanced, digit-again, all-advanced}
 use native.Mathlib.Omega.{arith}
-use Prim.Native.Nat.{_+_, _-_}
+use Prim.Native.Nat.{_-_}
 use Rattle.splits.proofs.picks.advance_of.Statement.{statement}
 use Rattle.splits.proofs.picks.advance_of.Tie as tie
-use Rattle.splits.proofs.picks.advance_of.Reads as reads
-use Rattle.splits.proofs.picks.advance_of.Lts as lts
-use Rattle.rows.proofs.walk.wide.Reads as wide-reads
 
 abbrev Inv-loop : tie.InvT-loop
 Inv-loop room₀ n radix at i₀ room i = Advancing room₀ n radix at room i

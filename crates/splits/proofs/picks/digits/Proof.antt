@@ -1,11 +1,7 @@
 use Rattle.splits.specs.Digits.{both-decoded, length-copies}
-use native.Mathlib.Omega.{arith}
 use borrow.Author.Needs.{needs}
 use Rattle.splits.proofs.picks.digits.Statement.{statement}
 use Rattle.splits.proofs.picks.digits.Tie as tie
-use Rattle.splits.proofs.picks.digits.Reads as reads
-use Rattle.splits.proofs.picks.digits.Lts as lts
-use Rattle.splits.proofs.picks.digits_of.Reads as digits-of-reads
 
 -- src/picks.rt:29:51
 add-digits-of : tie.Need-add-digits-of

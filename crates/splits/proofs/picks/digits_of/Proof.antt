@@ -1,11 +1,9 @@
-use Rattle.splits.proofs.Counting.{Decoding, none-decoded, numbers, digit-small, digit-decoded, all-decoded}
+use Rattle.splits.proofs.Counting.{Decoding, none-decoded, numbers, digit-decoded, all-decoded}
 use native.Mathlib.Omega.{arith}
 use native.Mathlib.Nat.{mod-lt}
-use Prim.Native.Nat.{_+_, _-_}
+use Prim.Native.Nat.{_-_}
 use Rattle.splits.proofs.picks.digits_of.Statement.{statement}
 use Rattle.splits.proofs.picks.digits_of.Tie as tie
-use Rattle.splits.proofs.picks.digits_of.Reads as reads
-use Rattle.splits.proofs.picks.digits_of.Lts as lts
 
 abbrev Inv-loop : tie.InvT-loop
 Inv-loop room₀ number n radix to left₀ i₀ room left i = Decoding room₀ number n radix to room left i

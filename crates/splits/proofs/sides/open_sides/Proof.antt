@@ -3,10 +3,6 @@ use native.Mathlib.Omega.{arith}
 use borrow.Author.Needs.{needs}
 use Rattle.splits.proofs.sides.open_sides.Statement.{statement}
 use Rattle.splits.proofs.sides.open_sides.Tie as tie
-use Rattle.splits.proofs.sides.open_sides.Reads as reads
-use Rattle.splits.proofs.sides.open_sides.Lts as lts
-use Rattle.rows.proofs.walk.wide.Reads as wide-reads
-use Rattle.splits.proofs.members.note_members.Reads as note-members-reads
 
 -- src/sides.rt:32:16
 add-body : tie.Need-add-body

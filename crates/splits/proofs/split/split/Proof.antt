@@ -1,13 +1,6 @@
 use borrow.Author.Needs.{needs}
 use Rattle.splits.proofs.split.split.Statement.{statement}
 use Rattle.splits.proofs.split.split.Tie as tie
-use Rattle.splits.proofs.split.split.Reads as reads
-use Rattle.splits.proofs.split.split.Lts as lts
-use Rattle.splits.proofs.different.different.Reads as different-reads
-use Rattle.splits.proofs.kept.neither.Reads as neither-reads
-use Rattle.splits.proofs.kept.same.Reads as same-reads
-use Rattle.splits.proofs.tail.left.Reads as left-reads
-use Rattle.splits.proofs.tail.right.Reads as right-reads
 
 -- src/split.rt:28:44
 enum-told : tie.Need-enum-told

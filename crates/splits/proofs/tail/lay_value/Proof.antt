@@ -2,10 +2,6 @@ use Rattle.splits.proofs.Laying.{tail-parts, value-length, value-short,
 use borrow.Author.Needs.{needs}
 use Rattle.splits.proofs.tail.lay_value.Statement.{statement}
 use Rattle.splits.proofs.tail.lay_value.Tie as tie
-use Rattle.splits.proofs.tail.lay_value.Reads as reads
-use Rattle.splits.proofs.tail.lay_value.Lts as lts
-use Rattle.room.proofs.copy.Reads as copy-reads
-use Rattle.splits.proofs.tails.tail_members.Reads as tail-members-reads
 
 -- src/tail.rt:31:16
 add-body : tie.Need-add-body

@@ -5,10 +5,6 @@ use mathlib.Core.Path.{refl}
 use borrow.Author.Needs.{needs}
 use Rattle.splits.proofs.tail.left.Statement.{statement}
 use Rattle.splits.proofs.tail.left.Tie as tie
-use Rattle.splits.proofs.tail.left.Reads as reads
-use Rattle.splits.proofs.tail.left.Lts as lts
-use Rattle.splits.proofs.bound.bind_tail.Reads as bind-tail-reads
-use Rattle.splits.proofs.tail.lay_value.Reads as lay-value-reads
 
 -- src/tail.rt:52:18
 add-stride : tie.Need-add-stride

@@ -1,14 +1,9 @@
 use borrow.Author.Needs.{needs}
 use Rattle.splits.proofs.Joining.{Joining, none-joined, numbers, rising, copy-parts, member-skipped, member-joined, all-joined, all-put}
 use native.Mathlib.Omega.{arith}
-use mathlib.Core.Path.{_≡_, refl, sym, _∙_, ap}
-use Prim.Native.Nat.{_+_, _-_}
+use Prim.Native.Nat.{_-_}
 use Rattle.splits.proofs.tails.tail_members.Statement.{statement}
 use Rattle.splits.proofs.tails.tail_members.Tie as tie
-use Rattle.splits.proofs.tails.tail_members.Reads as reads
-use Rattle.splits.proofs.tails.tail_members.Lts as lts
-use Rattle.room.proofs.copy.Reads as copy-reads
-use Rattle.rows.proofs.walk.wide.Reads as wide-reads
 
 abbrev Inv-loop : tie.InvT-loop
 Inv-loop room₀ body places picks n others to i₀ written₀ room i written = Joining room₀ body places picks n others to room i written

@@ -1,0 +1,83 @@
+use Rattle.rows.specs.Ended.{ended, ended-none, ended-out, ended-on}
+use Rattle.terms.specs.Bounds.{edition-one}
+use lib.ListN.{length, drop}
+use native.Mathlib.Omega.{arith}
+use mathlib.Core.Path.{_≡_, refl, sym, _∙_}
+use Prim.Native.Nat.{_+_, _*_, _-_, _≤_}
+use borrow.Author.Needs.{needs}
+use Rattle.rows.proofs.walk.walk_to_end.Statement.{statement}
+use Rattle.rows.proofs.walk.walk_to_end.Tie as tie
+
+abbrev Inv-loop : tie.InvT-loop
+Inv-loop arities words place₀ due₀ place due = (ended edition-one arities words 1 0 ≡ ended edition-one arities (drop place words) due place) × (place ≤ length words) × (due ≤ 1 + 255 * place)
+
+abbrev μ-loop : tie.MeasureT-loop
+μ-loop arities words place₀ due₀ place due = length words - place
+
+-- src/walk.rt:50:5
+loop-holds : tie.Need-loop-holds Inv-loop μ-loop
+loop-holds c = (refl, omega arith, omega arith)
+
+-- src/walk.rt:52:13
+returns : tie.Need-returns Inv-loop μ-loop
+returns c = sym (c .before .before .loop .inv .0 ∙ ended-out _ _ _ _ _ (c .if1 .taken))
+
+-- src/walk.rt:54:15
+sub-due : tie.Need-sub-due Inv-loop μ-loop
+sub-due c = search needs
+
+-- src/walk.rt:54:46
+mul-terms-after : tie.Need-mul-terms-after Inv-loop μ-loop
+mul-terms-after c = search needs
+
+-- src/walk.rt:54:46
+shared-slice-read-terms-after : tie.Need-shared-slice-read-terms-after Inv-loop μ-loop
+shared-slice-read-terms-after c = search needs
+
+-- src/walk.rt:54:25
+terms-after-requires : tie.Need-terms-after-requires Inv-loop μ-loop
+terms-after-requires c κs = search needs
+
+-- src/walk.rt:54:15
+add-due : tie.Need-add-due Inv-loop μ-loop
+add-due c = omega (arith, c .terms-after .ensures .1)
+
+-- src/walk.rt:55:9
+add-place : tie.Need-add-place Inv-loop μ-loop
+add-place c = search needs
+
+-- src/walk.rt:50:5
+loop-less : tie.Need-loop-less Inv-loop μ-loop
+loop-less c = search needs
+
+-- src/walk.rt:50:5
+loop-again : tie.Need-loop-again Inv-loop μ-loop
+loop-again c =
+    let l = c .before .before .before .before in
+    let t = c .before .before in
+    (l .loop .inv .0 ∙ rw (c .terms-after .ensures .0) (ended-on _ _ _ _ _ (t .if1 .left) (t .before .loop-test .taken)), omega arith, omega (arith, c .terms-after .ensures .1))
+
+-- src/walk.rt:44:1
+returns-2 : tie.Need-returns-2 Inv-loop μ-loop
+returns-2 c =
+    let l = c .before in
+    let z : l .loop .due ≡ 0 = omega arith in
+    sym (rw z at (l .loop .inv .0) ∙ ended-none _ _ _ _)
+
+pub walk-to-end-spec : {M : Type 1} → statement M
+walk-to-end-spec =
+    tie.close
+    (tie.spec
+    Inv-loop
+    μ-loop
+    loop-holds
+    returns
+    sub-due
+    mul-terms-after
+    shared-slice-read-terms-after
+    terms-after-requires
+    add-due
+    add-place
+    loop-less
+    loop-again
+    returns-2)
