@@ -1,7 +1,8 @@
 // The entries as C calls them; include/mensorique.h declares them and is the caller's reference. Each takes what an entry of `mensorique` takes, with a
 // slice as a pointer and a length. A status comes back: 0, and the out numbers are written; or the refusal's number, and the place alone is written.
 //
-// In specs/, `Replies` says which status and which out numbers an answer gives. Lent buffers are as the entries leave them.
+// Crate `replies` says which status and which out numbers an answer gives, and tells them. In specs/, `Calls` says which reply each call gives for what was
+// lent, and how many words a run's room has. Lent buffers are as the entries leave them.
 ghost use mathlib.Core.Path.{_≡_};
 ghost use lib.ListN.{length as len};
 ghost use Rattle.room.specs.Room.{put};
@@ -14,10 +15,8 @@ ghost use Rattle.text.specs.Text.{question-text};
 ghost use Rattle.reader.specs.Questions.{question-into, laid, arities-of, words-of};
 ghost use Rattle.writer.specs.Written.{held, question-written, list-written, text-of-list};
 ghost use Rattle.solver.specs.Result.{told, refuses, words-told};
-ghost use Rattle.mensorique_c.specs.Replies.{status, out, place-out, read-reply, question-reply, list-reply, equal-reply, solves-reply, run-reply, room-words};
-
-mod replies;
-
+ghost use Rattle.replies.specs.Replies.{status, out, place-out};
+ghost use Rattle.mensorique_c.specs.Calls.{read-reply, question-reply, list-reply, equal-reply, solves-reply, run-reply, room-words};
 use replies::tell_equality;
 use replies::tell_question;
 use replies::tell_ran;

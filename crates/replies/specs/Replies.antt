@@ -3,25 +3,17 @@
 use Prim.Native.Nat.{ℕ}
 use mathlib.Core.List.{List, [], _∷_}
 use lib.ListN.{getD}
-use Rattle.terms.specs.Bounds.{edition-one}
 use Rattle.terms.specs.Refusal.{number}
 use Rattle.terms.specs.declared.refusal.Refusal.{Refusal}
 use Rattle.search.specs.Ends.{end-number}
-use Rattle.search.specs.Lent.{lent}
-use Rattle.search.specs.declared.limits.Lent.{Lent}
-use Rattle.search.specs.declared.limits.Lent.the-variants as lents
-use Rattle.reader.specs.Questions.{question-into, answer}
 use Rattle.reader.specs.declared.question.Question.{Question}
 use Rattle.reader.specs.declared.question.Question.the-variants as question
-use Rattle.writer.specs.Written.{question-written, list-written}
 use Rattle.writer.specs.declared.written.Written.{Written}
 use Rattle.writer.specs.declared.written.Written.the-variants as written
-use Rattle.same.specs.Answering.{equal-answer, solves-answer}
 use Rattle.same.specs.declared.Equality.{Equality}
 use Rattle.same.specs.declared.Equality.the-variants as equality
 use Rattle.same.specs.declared.Solving.{Solving}
 use Rattle.same.specs.declared.Solving.the-variants as solving
-use Rattle.solver.specs.Result.{told, result, needed}
 use Rattle.solver.specs.declared.Ran.{Ran}
 use Rattle.solver.specs.declared.Ran.the-variants as ran
 
@@ -72,33 +64,3 @@ of-solving (solving.Refused refusal) = refused refusal
 abbrev pub of-ran : Ran → Reply
 of-ran (ran.Ended ending) = granted (end-number (ending .end) ∷ ending .counts .visited ∷ ending .counts .answers ∷ ending .counts .words ∷ [])
 of-ran (ran.Refused refusal) = refused refusal
-
--- ---- the calls' replies, by what was lent
-
-abbrev pub read-reply : (arities words : ℕ) (text : List ℕ) → Reply
-read-reply arities words text = of-question (answer (question-into edition-one arities words text))
-
-abbrev pub question-reply : (unknowns : ℕ) (arities : List ℕ) (equations : ℕ) (words : List ℕ) (room : ℕ) → Reply
-question-reply unknowns arities equations words room = of-written (question-written edition-one unknowns arities equations words room)
-
-abbrev pub list-reply : (arities : List ℕ) (end visited answers : ℕ) (words : List ℕ) (room : ℕ) → Reply
-list-reply arities end visited answers words room = of-written (list-written edition-one arities end visited answers words room)
-
-abbrev pub equal-reply : (arities row : List ℕ) → Reply
-equal-reply arities row = of-equality (equal-answer edition-one arities row)
-
-abbrev pub solves-reply : (unknowns : ℕ) (arities : List ℕ) (equations : ℕ) (words row : List ℕ) → Reply
-solves-reply unknowns arities equations words row = of-solving (solves-answer edition-one unknowns arities equations words row)
-
-abbrev pub run-reply : (unknowns : ℕ) (arities : List ℕ) (equations : ℕ) (words : List ℕ) (steps depth size space room : ℕ) → Reply
-run-reply unknowns arities equations words steps depth size space room = of-ran (result (told unknowns arities equations words steps depth size space room))
-
--- ---- the words of a run's room
-
--- none where a limit is exceeded
-abbrev pub room-of : Lent → ℕ
-room-of (lents.Within limits) = needed limits
-room-of lents.Above = 0
-
-abbrev pub room-words : (depth size : ℕ) → ℕ
-room-words depth size = room-of (lent 0 depth size)

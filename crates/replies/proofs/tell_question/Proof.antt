@@ -1,8 +1,8 @@
--- `mensorique_c::replies::tell_question`: what was read, or the refusal.
+-- `replies::tell_question`: what was read, or the refusal.
 use mathlib.Core.Path.{refl}
 use borrow.Author.Needs.{needs}
-use Rattle.mensorique_c.proofs.replies.tell_question.Statement.{statement}
-use Rattle.mensorique_c.proofs.replies.tell_question.Tie as tie
+use Rattle.replies.proofs.tell_question.Statement.{statement}
+use Rattle.replies.proofs.tell_question.Tie as tie
 
 enum-known-question : tie.Need-enum-known-question
 enum-known-question c = search needs

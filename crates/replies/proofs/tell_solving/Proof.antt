@@ -1,8 +1,8 @@
--- `mensorique_c::replies::tell_solving`: 1 or 0, or the refusal.
+-- `replies::tell_solving`: 1 or 0, or the refusal.
 use mathlib.Core.Path.{refl}
 use borrow.Author.Needs.{needs}
-use Rattle.mensorique_c.proofs.replies.tell_solving.Statement.{statement}
-use Rattle.mensorique_c.proofs.replies.tell_solving.Tie as tie
+use Rattle.replies.proofs.tell_solving.Statement.{statement}
+use Rattle.replies.proofs.tell_solving.Tie as tie
 
 enum-told : tie.Need-enum-told
 enum-told c = search needs

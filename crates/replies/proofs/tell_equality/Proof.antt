@@ -1,8 +1,8 @@
--- `mensorique_c::replies::tell_equality`: 1 or 0, or the refusal.
+-- `replies::tell_equality`: 1 or 0, or the refusal.
 use mathlib.Core.Path.{refl}
 use borrow.Author.Needs.{needs}
-use Rattle.mensorique_c.proofs.replies.tell_equality.Statement.{statement}
-use Rattle.mensorique_c.proofs.replies.tell_equality.Tie as tie
+use Rattle.replies.proofs.tell_equality.Statement.{statement}
+use Rattle.replies.proofs.tell_equality.Tie as tie
 
 enum-told : tie.Need-enum-told
 enum-told c = search needs

@@ -1,8 +1,8 @@
--- `mensorique_c::replies::tell_ran`: the end and what was counted, or the refusal.
+-- `replies::tell_ran`: the end and what was counted, or the refusal.
 use mathlib.Core.Path.{refl}
 use borrow.Author.Needs.{needs}
-use Rattle.mensorique_c.proofs.replies.tell_ran.Statement.{statement}
-use Rattle.mensorique_c.proofs.replies.tell_ran.Tie as tie
+use Rattle.replies.proofs.tell_ran.Statement.{statement}
+use Rattle.replies.proofs.tell_ran.Tie as tie
 
 enum-known-ran : tie.Need-enum-known-ran
 enum-known-ran c = search needs

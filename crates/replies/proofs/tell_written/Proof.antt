@@ -1,8 +1,8 @@
--- `mensorique_c::replies::tell_written`: the length, or the refusal.
+-- `replies::tell_written`: the length, or the refusal.
 use mathlib.Core.Path.{refl}
 use borrow.Author.Needs.{needs}
-use Rattle.mensorique_c.proofs.replies.tell_written.Statement.{statement}
-use Rattle.mensorique_c.proofs.replies.tell_written.Tie as tie
+use Rattle.replies.proofs.tell_written.Statement.{statement}
+use Rattle.replies.proofs.tell_written.Tie as tie
 
 enum-known-written : tie.Need-enum-known-written
 enum-known-written c = search needs

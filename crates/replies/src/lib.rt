@@ -1,16 +1,18 @@
-// What an entry answered, told as C has it: a status, and out numbers. Each function writes its out numbers and leaves the place alone, or writes the
-// place alone.
+// What an answer is told as to C: which status and which out numbers it gives. A granted call has status 0, its out numbers are written, and the place is
+// left alone; a refused one has the refusal's number for status, and the place alone is written. `mensorique_c` has the calls.
+//
+// In specs/, `Replies` has the definitions, which a client's contracts cite.
 ghost use mathlib.Core.Path.{_≡_};
 ghost use Rattle.terms.specs.Refusal.{number};
-ghost use Rattle.mensorique_c.specs.Replies.{status, out, place-out, of-question, of-written, of-equality, of-solving, of-ran};
-use mensorique::Equality;
-use mensorique::Question;
-use mensorique::Ran;
-use mensorique::Refusal;
-use mensorique::Solving;
-use mensorique::Written;
-use mensorique::number_of;
-use mensorique::number_of_end;
+ghost use Rattle.replies.specs.Replies.{status, out, place-out, of-question, of-written, of-equality, of-solving, of-ran};
+use reader::question::Question;
+use same::Equality;
+use same::Solving;
+use search::ends::number_of_end;
+use solver::Ran;
+use terms::refusal::Refusal;
+use terms::refusal::number_of;
+use writer::written::Written;
 
 // A refusal's number, with its place written.
 fn tell_refusal(refusal: Refusal, place: &mut usize) -> u32
