@@ -27,12 +27,12 @@ ghost use Rattle.writer.specs.Written.{held, question-written, list-written, te
 ghost use Rattle.same.specs.Answering.{equal-answer, solves-answer};
 ghost use Rattle.solver.specs.Result.{told, refuses, result, words-told};
 pub use reader::question::Question;
+pub use record::Record;
 pub use same::Equality;
 pub use same::Solving;
 pub use search::ends::End;
 pub use search::ends::number_of_end;
 pub use solver::Ran;
-pub use solver::running::Record;
 pub use solver::turn::Ending;
 pub use terms::refusal::Cause;
 pub use terms::refusal::Refusal;

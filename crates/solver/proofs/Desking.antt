@@ -8,10 +8,10 @@ use native.Mathlib.Omega.{arith}
 use Rattle.room.specs.Replaced.{by-test}
 use Rattle.search.specs.declared.limits.Limits.{Limits}
 use Rattle.rows.specs.declared.bind.Made.the-variants.{Live}
+use Rattle.record.specs.declared.Record.{Record}
 use Rattle.children.specs.declared.next.Looked.{Looked}
 use Rattle.children.specs.declared.next.Next.the-variants.{Node as Found}
 use Rattle.children.specs.Shown.{Looks}
-use Rattle.solver.specs.declared.running.Record.{Record}
 use Rattle.solver.specs.Desk.{Desk, nothing-open, open-here, open-above, Looking, desk-here, desk-above, desk-kept}
 use Rattle.solver.specs.Running.{Given, Running, scratch-of, most-of}
 use Rattle.solver.proofs.Standing.{rows-above, ready}

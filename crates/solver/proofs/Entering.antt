@@ -26,18 +26,18 @@ use Rattle.promises.specs.Runs.Visiting.{Live as Is-live, is-live}
 use Rattle.turns.specs.Going.{Open, resumed, left, to-come, run-goes-on, run-overflows}
 use Rattle.rows.specs.declared.bind.Made.the-variants.{Live}
 use Rattle.rows.specs.Row.{Fresh, Makes}
+use Rattle.record.specs.declared.Record.{Record}
+use Rattle.record.specs.Counts.{counted, with-answers, fits, answer-in, note-by, held-by}
+use Rattle.record.specs.Answering.{answer-held, held-notable}
 use Rattle.children.specs.declared.next.Next.the-variants.{Node as Found}
 use Rattle.children.specs.Became.{few-names, small-enough}
 use Rattle.children.specs.Next.{dead-ends, Tells, then-live}
-use Rattle.solver.specs.declared.running.Record.{Record}
-use Rattle.solver.specs.Counts.{counted, with-answers, fits, answer-in, note-by, held-by}
 use Rattle.solver.specs.Desk.{Desk, open-above, desk-kept}
 use Rattle.solver.specs.Number.{number-words}
 use Rattle.solver.specs.Passing.{long-overflows}
 use Rattle.solver.specs.Path.{Row, Rows, a-row, holds-kept, rows-kept, part-kept, numbered, before-number, holds-numbered, holds-after, part-after, fresh-number}
 use Rattle.solver.specs.Result.{loan}
 use Rattle.solver.specs.Running.{Given, given, remains, scratch-of, Running, Turned, goes, ends, most-of, OpenParts, child-place, child-row, noted-turn, node-turn, node-room, node-answers}
-use Rattle.solver.proofs.Answering.{answer-held, held-notable}
 use Rattle.solver.proofs.Meeting.{next-visit, met, open-to}
 use Rattle.solver.proofs.Standing.{passed, rows-above, row-here, ready, most-few, most-deep}
 use Rattle.solver.proofs.Turning.{Told, suits-kept}

@@ -10,13 +10,13 @@ use Rattle.search.specs.declared.limits.Limits.{Limits}
 use Rattle.search.specs.State.{State}
 use Rattle.rows.specs.declared.bind.Made.{Made}
 use Rattle.rows.specs.declared.bind.Made.the-variants.{Dead, Names as ManyNames, Large, Live}
+use Rattle.record.specs.declared.Record.{Record}
+use Rattle.record.specs.Counts.{counted}
 use Rattle.children.specs.declared.next.Looked.{Looked}
 use Rattle.children.specs.declared.next.Next.the-variants.{Spent, Node as Found, Due}
-use Rattle.solver.specs.declared.running.Record.{Record}
 use Rattle.solver.specs.declared.turn.Ending.{Ending}
 use Rattle.solver.specs.declared.turn.Turn.{Turn}
 use Rattle.solver.specs.declared.turn.Turn.the-variants.{End}
-use Rattle.solver.specs.Counts.{counted}
 use Rattle.children.specs.Shown.{Looks}
 use Rattle.solver.specs.Desk.{Looking}
 use Rattle.solver.specs.Number.{number-of, number-words, number-back}

@@ -1,7 +1,4 @@
-pub mod Listing
-pub mod Noting
 pub mod Opening
-pub mod Answering
 pub mod Sounding
 pub mod Standing
 pub mod Desking

@@ -5,7 +5,7 @@ use mathlib.Core.List.{List}
 use native.Mathlib.Omega.{arith}
 use lib.ListN.{length}
 use Rattle.search.specs.declared.limits.Limits.{Limits}
-use Rattle.solver.specs.declared.running.Record.{Record}
+use Rattle.record.specs.declared.Record.{Record}
 use Rattle.solver.specs.declared.turn.Ending.{Ending}
 use Rattle.solver.specs.declared.turn.Turn.{Turn}
 use Rattle.solver.specs.declared.turn.Turn.the-variants.{At, End}

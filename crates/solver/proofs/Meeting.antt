@@ -13,12 +13,12 @@ use Rattle.search.specs.Run.{Visit, visit}
 use Rattle.turns.specs.Going.{left, to-come, to-come-live}
 use Rattle.turns.specs.Numbers.{drop-next}
 use Rattle.rows.specs.declared.bind.Made.the-variants.{Dead, Names as ManyNames, Large}
+use Rattle.record.specs.declared.Record.{Record}
+use Rattle.record.specs.Counts.{counted}
 use Rattle.children.specs.declared.next.Next.the-variants.{Node as Found}
 use Rattle.children.specs.Became.{many-names, few-names, too-large, never-dead}
 use Rattle.children.specs.Next.{dead-ends, Tells, then-live}
-use Rattle.solver.specs.declared.running.Record.{Record}
 use Rattle.solver.specs.declared.turn.Turn.the-variants.{End}
-use Rattle.solver.specs.Counts.{counted}
 use Rattle.solver.specs.Passing.{names-stop, large-stops}
 use Rattle.solver.specs.Result.{loan}
 use Rattle.solver.specs.Running.{Given, given, remains, Running, Turned, ends, most-of}

@@ -9,12 +9,12 @@ use Rattle.room.specs.Room.{seg, put}
 use Rattle.search.specs.declared.ends.End.the-variants.{Space}
 use Rattle.search.specs.declared.limits.Limits.{Limits}
 use Rattle.rows.specs.declared.bind.Made.the-variants.{Live}
-use Rattle.solver.specs.declared.running.Record.{Record}
-use Rattle.solver.specs.declared.running.Noted.{Noted}
-use Rattle.solver.specs.declared.running.Noted.the-variants.{Held, Space as NoSpace}
+use Rattle.record.specs.declared.Record.{Record}
+use Rattle.record.specs.declared.Noted.{Noted}
+use Rattle.record.specs.declared.Noted.the-variants.{Held, Space as NoSpace}
+use Rattle.record.specs.Counts.{counted, answer-in, note-by, held-by, Notable}
 use Rattle.solver.specs.declared.turn.Turn.{Turn}
 use Rattle.solver.specs.declared.turn.Turn.the-variants.{At, End}
-use Rattle.solver.specs.Counts.{counted, answer-in, note-by, held-by, Notable}
 use Rattle.solver.specs.Number.{number-words}
 use Rattle.solver.specs.Path.{part-after}
 use Rattle.solver.specs.Running.{OpenParts, child-place, child-row, noted-turn, node-turn, node-room, node-answers}

@@ -14,9 +14,9 @@ use Rattle.search.specs.declared.limits.Limits.{Limits}
 use Rattle.search.specs.State.{Node}
 use Rattle.search.specs.Children.{children}
 use Rattle.turns.specs.Going.{Open, to-come}
+use Rattle.record.specs.declared.Record.{Record}
+use Rattle.record.specs.Counts.{counted}
 use Rattle.children.specs.Next.{dead-ends, Ready}
-use Rattle.solver.specs.declared.running.Record.{Record}
-use Rattle.solver.specs.Counts.{counted}
 use Rattle.solver.specs.Passing.{to-come-deads, deads-pass}
 use Rattle.solver.specs.Path.{Row, Rows, a-row}
 use Rattle.solver.specs.Result.{loan, needed}

@@ -20,11 +20,11 @@ use Rattle.search.specs.Run.{Visit, visit, dead-visit, stops, verdict, scan}
 use Rattle.turns.specs.Going.{Open, resumed, left, to-come, to-come-spent, to-come-dead, to-come-live, run-stops}
 use Rattle.turns.specs.Numbers.{drop-next}
 use Rattle.rows.specs.declared.bind.Made.{Made}
+use Rattle.record.specs.declared.Record.{Record}
+use Rattle.record.specs.Counts.{counted}
 use Rattle.children.specs.declared.next.Next.{Next}
 use Rattle.children.specs.declared.next.Next.the-variants.{Spent, Node as Found, Due}
-use Rattle.solver.specs.declared.running.Record.{Record}
 use Rattle.solver.specs.declared.turn.Turn.the-variants.{End}
-use Rattle.solver.specs.Counts.{counted}
 use Rattle.children.specs.Next.{Tells, all-dead, then-live, then-due, Child}
 use Rattle.solver.specs.Desk.{Desk}
 use Rattle.solver.specs.Passing.{spent-stops, deep-stops}

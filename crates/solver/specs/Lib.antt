@@ -1,4 +1,3 @@
-pub mod Counts
 pub mod Desk
 pub mod Number
 pub mod Passing

@@ -16,13 +16,13 @@ use Rattle.search.specs.Run.{Visit, Outcome, scan}
 use Rattle.turns.specs.Going.{Open, resumed, left, to-come}
 use Rattle.rows.specs.declared.bind.Made.{Made}
 use Rattle.rows.specs.declared.bind.Made.the-variants.{Dead, Names as ManyNames, Large, Live}
-use Rattle.solver.specs.declared.running.Record.{Record}
-use Rattle.solver.specs.declared.running.Noted.{Noted}
-use Rattle.solver.specs.declared.running.Noted.the-variants.{Held, Space as NoSpace}
+use Rattle.record.specs.declared.Record.{Record}
+use Rattle.record.specs.declared.Noted.{Noted}
+use Rattle.record.specs.declared.Noted.the-variants.{Held, Space as NoSpace}
+use Rattle.record.specs.Counts.{counted, answer-in, note-by, held-by, Notable}
 use Rattle.solver.specs.declared.turn.Ending.{Ending}
 use Rattle.solver.specs.declared.turn.Turn.{Turn}
 use Rattle.solver.specs.declared.turn.Turn.the-variants.{At, End}
-use Rattle.solver.specs.Counts.{counted, answer-in, note-by, held-by, Notable}
 use Rattle.solver.specs.Desk.{Desk}
 use Rattle.solver.specs.Number.{number-words}
 use Rattle.solver.specs.Path.{Rows}

@@ -15,7 +15,7 @@ use Rattle.promises.specs.States.Orderly.{Orderly}
 use Rattle.turns.specs.Going.{to-come}
 use Rattle.rows.specs.Row.{Fresh}
 use Rattle.rows.specs.Header.{header-of}
-use Rattle.solver.specs.declared.running.Record.{Record}
+use Rattle.record.specs.declared.Record.{Record}
 use Rattle.solver.specs.Result.{loan, ending}
 use Rattle.solver.specs.Running.{Suits, Given, given, remains}
 

@@ -1,11 +1,10 @@
 // How the whole tree is visited within limits: the rows of the path stand in the lent room, and a loop takes one turn after the other.
 //
-//     running    the running record, and the answers listed
-//     path       the rows of the path
-//     turn       one turn, and the loop
+//     path  the rows of the path
+//     turn  one turn, and the loop
 //
-// In specs/, `Result` says what a run gives for any input; `Running` is the loop's invariant, over `Path`, `Desk` and `Counts`; `Passing` has the laws of
-// dead ends passed at once.
+// Crate `record` counts the nodes, and lists the answers. In specs/, `Result` says what a run gives for any input; `Running` is the loop's invariant, over
+// `Path` and `Desk`; `Passing` has the laws of dead ends passed at once.
 ghost use mathlib.Core.Path.{_≡_};
 ghost use lib.ListN.{length};
 ghost use Rattle.room.specs.Room.{put};
@@ -16,15 +15,14 @@ ghost use Rattle.solver.specs.Running.{Given, Ends};
 ghost use Rattle.solver.specs.Start.{Asking, Bounded, Rooted, whole-run};
 
 pub mod path;
-pub mod running;
 pub mod turn;
 
 use path::write_root;
+use record::Noted;
+use record::Record;
+use record::note;
+use record::with_nodes;
 use rows::header::HEADER;
-use running::Noted;
-use running::Record;
-use running::note;
-use running::with_nodes;
 use search::ends::End;
 use search::limits::Lent;
 use search::limits::Limits;

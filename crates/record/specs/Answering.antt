@@ -1,11 +1,14 @@
--- A row that holds a state: its answer in words is the answer that the state is, and its words may be noted.
+-- The answer of a row in words: whether it is one. Where the row holds a state, it is the answer that the state is, and the row's words may be noted.
 use Prim.Native.Nat.{ℕ, _+_, _≤_, _<_, _^_}
 use mathlib.Core.Path.{_≡_, refl, sym, ap, _∙_}
 use mathlib.Core.List.{List, [], _∷_}
 use native.Mathlib.Omega.{arith}
+use lib.Dec.{eqb}
 use lib.ListN.{length, take, getD}
 use lib.Seq.{getD-take}
+use borrow.Author.Tests.{eq-eqb, ne-eqb}
 use Rattle.room.specs.Room.{seg, length-seg, take-seg, seg-seg}
+use Rattle.room.specs.Replaced.{by-test}
 use Rattle.terms.specs.Bounds.{edition-one}
 use Rattle.terms.specs.Formed.{Equation, sides}
 use Rattle.terms.specs.Formed.{row as side-words}
@@ -18,9 +21,40 @@ use Rattle.rows.specs.First.{header-in}
 use Rattle.rows.specs.Pile.{pile-words}
 use Rattle.rows.specs.States.{pending-words, body-words}
 use Rattle.rows.specs.Row.{Holds, header-for, state-words}
-use Rattle.solver.specs.declared.running.Record.{Record}
-use Rattle.solver.specs.Counts.{listed-by, answer-in, Notable}
-use Rattle.solver.proofs.Noting.{body-is, pending-none, pile-none, one-answer}
+use Rattle.record.specs.declared.Record.{Record}
+use Rattle.record.specs.Counts.{listed-by, answer-in, Notable}
+
+-- ---- read from its header
+
+module _ (row : List ℕ) {h : Header} (e : h ≡ header-in (take 5 row)) where
+  pending-is : h .pending ≡ getD row 0 0
+  unfolding header-in
+  pending-is = ap (λ (g : Header). g .pending) e ∙ getD-take 5 row 0 0 (omega arith)
+
+  pile-is : h .pile ≡ getD row 1 0
+  unfolding header-in
+  pile-is = ap (λ (g : Header). g .pile) e ∙ getD-take 5 row 1 0 (omega arith)
+
+  body-is : h .body ≡ getD row 2 0
+  unfolding header-in
+  body-is = ap (λ (g : Header). g .body) e ∙ getD-take 5 row 2 0 (omega arith)
+
+  pub pending-none : 0 < h .pending → answer-in row ≡ []
+  unfolding answer-in
+  pending-none p = rw (ne-eqb (getD row 0 0) 0 (λ z. omega (arith, pending-is)))
+
+  pub pile-none : 0 < h .pile → answer-in row ≡ []
+  unfolding answer-in
+  pile-none p = by-test (eqb (getD row 0 0) 0) (λ t. rw (t, ne-eqb (getD row 1 0) 0 (λ z. omega (arith, pile-is)))) (λ f. rw f)
+
+  pub one-answer : h .pending ≤ 0 → h .pile ≤ 0 → answer-in row ≡ listed-by row (h .body) ∷ []
+  unfolding answer-in
+  one-answer p q = rw (eq-eqb (getD row 0 0) 0 (omega (arith, pending-is)), eq-eqb (getD row 1 0) 0 (omega (arith, pile-is)), body-is)
+
+  pub within-row : {a : List ℕ} {r : Record} → Notable row a r → h .pending ≤ 0 → h .pile ≤ 0 → 8 + h .body ≤ length row
+  within-row N p q = rw body-is (N .body (omega (arith, pending-is)) (omega (arith, pile-is)))
+
+-- ---- a row that holds a state
 
 module _ {l : List ℕ} {to : ℕ} {st : State} (H : Holds edition-one l to st) (n : ℕ) (within : to + n ≤ length l) (fits : 8 + state-size st ≤ n) where
   abbrev row : List ℕ

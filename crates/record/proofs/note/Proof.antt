@@ -1,11 +1,12 @@
--- `solver::running::note`: `Noting` says, for each way out, which answer the row's words are and whether they fit.
+-- `record::note`: `Noting` says, for each way out, which answer the row's words are and whether they fit.
 use mathlib.Core.Path.{sym}
 use native.Mathlib.Omega.{arith}
 use lib.Seq.{length-take-le}
-use Rattle.solver.proofs.Noting.{pending-left, pile-left, too-long, held, within-row}
+use Rattle.record.specs.Answering.{within-row}
+use Rattle.record.proofs.Noting.{pending-left, pile-left, too-long, held}
 use borrow.Author.Needs.{needs}
-use Rattle.solver.proofs.running.note.Statement.{statement}
-use Rattle.solver.proofs.running.note.Tie as tie
+use Rattle.record.proofs.note.Statement.{statement}
+use Rattle.record.proofs.note.Tie as tie
 
 slice-aggregate-read-header : tie.Need-slice-aggregate-read-header
 slice-aggregate-read-header c = sym (length-take-le 5 (c .before .before .before .args .row .now) (omega arith))

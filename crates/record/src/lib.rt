@@ -1,9 +1,12 @@
 // The running record of nodes visited, answers and words used, and the answers themselves, which are listed in the lent words.
+//
+// In specs/, `Counts` says what the record becomes and which words an answer adds; `Answering` has the laws of a row's answer: where the row holds a state,
+// it is the answer that the state is.
 ghost use mathlib.Core.Path.{_≡_};
 ghost use Prim.Native.Nat.{_+_, _≤_, _<_, _^_};
 ghost use lib.ListN.{length};
 ghost use Rattle.room.specs.Room.{put};
-ghost use Rattle.solver.specs.Counts.{counted, noted, answer-in, Notable, listed-by, note-by, held-by};
+ghost use Rattle.record.specs.Counts.{counted, noted, answer-in, Notable, listed-by, note-by, held-by};
 use rows::first::read_header;
 use rows::header::HEADER;
 

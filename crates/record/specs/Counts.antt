@@ -7,9 +7,9 @@ use lib.Dec.{eqb, leb}
 use lib.ListN.{length, getD}
 use Rattle.room.specs.Room.{seg, put}
 use Rattle.terms.specs.Answers.{listed}
-use Rattle.solver.specs.declared.running.Record.{Record}
-use Rattle.solver.specs.declared.running.Noted.{Noted}
-use Rattle.solver.specs.declared.running.Noted.the-variants.{Held, Space}
+use Rattle.record.specs.declared.Record.{Record}
+use Rattle.record.specs.declared.Noted.{Noted}
+use Rattle.record.specs.declared.Noted.the-variants.{Held, Space}
 
 -- so many nodes more
 abbrev pub counted : Record → ℕ → Record

@@ -6,7 +6,7 @@ use native.Mathlib.Omega.{arith}
 use native.Mathlib.Numerals.{add-one}
 use lib.ListN.{length, take, drop, getD, set}
 use Rattle.room.specs.Room.{seg, put, length-seg}
-use Rattle.solver.specs.Counts.{listed-by}
+use Rattle.record.specs.Counts.{listed-by}
 
 pub part-length : (row : List ℕ) (n : ℕ) → 8 + n ≤ length row → length (take (8 + n - 8) (drop 8 row)) ≡ n
 unfolding seg

@@ -1,12 +1,12 @@
--- `solver::running::list_answer`: the number of bindings is stored, and the body copied after it.
+-- `record::list_answer`: the number of bindings is stored, and the body copied after it.
 use mathlib.Core.Path.{ap, _∙_}
 use lib.ListN.{length, length-set}
 use native.Mathlib.Omega.{arith}
 use Rattle.room.specs.Room.{length-put}
-use Rattle.solver.proofs.Listing.{part-length, listed-so}
+use Rattle.record.proofs.Listing.{part-length, listed-so}
 use borrow.Author.Needs.{needs}
-use Rattle.solver.proofs.running.list_answer.Statement.{statement}
-use Rattle.solver.proofs.running.list_answer.Tie as tie
+use Rattle.record.proofs.list_answer.Statement.{statement}
+use Rattle.record.proofs.list_answer.Tie as tie
 
 add-end : tie.Need-add-end
 add-end c = search needs
