@@ -11,17 +11,17 @@ use Rattle.search.specs.State.{State, size-equations}
 use Rattle.search.specs.Classify.{classify}
 use Rattle.search.specs.declared.steps.Tails.{Tails}
 use Rattle.search.specs.declared.steps.Step.the-variants.{Split}
-use Rattle.rows.specs.At.{first-found, first-size}
-use Rattle.rows.specs.declared.bind.Rest.{Rest}
+use Rattle.binding.specs.At.{first-found, first-size}
+use Rattle.rows.specs.declared.parts.Rest.{Rest}
 use Rattle.rows.specs.declared.first.First.{First}
 use Rattle.rows.specs.declared.header.Header.{Header}
 use Rattle.rows.specs.First.{first-in, header-in, HeaderParts, rest-after}
 use Rattle.rows.specs.Row.{header-for}
-use Rattle.children.specs.Next.{Ready}
-use Rattle.children.specs.Quiet.{Quiet}
-use Rattle.children.specs.Single.{Single}
-use Rattle.children.specs.Splitting.{Splitting}
-use Rattle.children.proofs.Reading.{lent-part, Begins, no-equation, some-equation, header-read, pending-within, rest-parts}
+use Rattle.only_child.specs.Next.{Ready}
+use Rattle.only_child.specs.Quiet.{Quiet}
+use Rattle.only_child.specs.Single.{Single}
+use Rattle.openings.specs.Splitting.{Splitting}
+use Rattle.only_child.proofs.Reading.{lent-part, Begins, no-equation, some-equation, header-read, pending-within, rest-parts}
 
 module _ {arities l : List ℕ} {at number lent scratch most : ℕ} {st : State} (R : Ready arities l at number lent scratch most st) {h : Header}
     (read : h ≡ header-in (take (at + 5 - at) (drop at l))) where

@@ -1,16 +1,2 @@
-pub mod Advancing
 pub mod Choosing
-pub mod Continuing
-pub mod Joining
 pub mod Leaving
-pub mod Numbering
-pub mod Only
-pub mod Opening
-pub mod Passing
-pub mod Radices
-pub mod Reading
-pub mod Repicking
-pub mod Splitting
-pub mod Starting
-pub mod Stepping
-pub mod Telling

@@ -1,37 +1,20 @@
-// The children of a row from a number on: dead ends are passed, and the first child that is none is written to the next row.
-//
-//     next    what is told of a row's children
-//     pick    the children of a split, one choice of picks after the other
-//     quiet   the child of a row in which nothing is pending
-//     shown   the sides of a split that stands open
-//     single  the child of a row whose first equation leaves no choice
-//
-// The first three rows of scratch are a split's: once opened, it stands there until another split is opened, and its next child is found by advancing the
-// picks. In specs/, `Next` is what is asked of a row and told of its children, and `Shown` the same with the split that stands open; `Quiet`, `Single` and
-// `Splitting` are what is asked of a row by how its children come, and `Picks` and `Sides` of a split that is opened; `Became` says what a node is by what
-// became of it.
+// The children of a row from a number on, by the kind of the row: dead ends are passed, and the first child that is none is written to the next row.
+// Crate `only_child` has the rows without a choice, and `openings` the splits.
 ghost use Prim.Native.Nat.{ℕ, _+_};
 ghost use Rattle.search.specs.State.{State};
-ghost use Rattle.children.specs.Next.{Ready};
-ghost use Rattle.children.specs.Shown.{Looks, Opened, OpenedAt, Opens};
-
-pub mod next;
-pub mod pick;
-pub mod quiet;
-pub mod shown;
-pub mod single;
-
-use next::Looked;
-use next::Next;
-use pick::pick;
-use pick::pick_on;
-use quiet::join_pile;
+ghost use Rattle.only_child.specs.Next.{Ready};
+ghost use Rattle.pick_loop.specs.Shown.{Looks, Opened, OpenedAt, Opens};
+use only_child::next::Looked;
+use only_child::next::Next;
+use only_child::quiet::join_pile;
+use only_child::single::step_on;
+use openings::pick::pick;
+use openings::pick::pick_on;
 use rows::first::first_of;
 use rows::first::read_header;
 use rows::first::rest_of;
 use rows::header::HEADER;
 use search::steps::Step;
-use single::step_on;
 
 // The same, by the kind of the row: nothing is pending, or its first equation is a split, or it leaves no choice.
 fn find_child(

@@ -22,21 +22,21 @@ ghost use Rattle.terms.specs.Listing.{answers-of};
 ghost use Rattle.terms.specs.Reading.{question-of};
 ghost use Rattle.search.specs.Ends.{end-of};
 ghost use Rattle.text.specs.Text.{question-text};
-ghost use Rattle.reader.specs.Questions.{question-into, answer, laid, arities-of, words-of};
+ghost use Rattle.question_reader.specs.Questions.{question-into, answer, laid, arities-of, words-of};
 ghost use Rattle.writer.specs.Written.{held, question-written, list-written, text-of-list};
 ghost use Rattle.same.specs.Answering.{equal-answer, solves-answer};
 ghost use Rattle.solver.specs.Result.{told, refuses, result, words-told};
-pub use reader::question::Question;
+pub use question_reader::whole::Question;
 pub use record::Record;
 pub use same::Equality;
 pub use same::Solving;
 pub use search::ends::End;
 pub use search::ends::number_of_end;
 pub use solver::Ran;
-pub use solver::turn::Ending;
 pub use terms::refusal::Cause;
 pub use terms::refusal::Refusal;
 pub use terms::refusal::number_of;
+pub use visits::node::Ending;
 pub use writer::written::Written;
 
 // Reads a question's text.

@@ -1,3 +1,2 @@
 pub mod Stack
 pub mod Steps
-pub mod Walks

@@ -19,8 +19,8 @@ use Rattle.text.specs.Text.{text, after-member, arguments, after-argument, unkn
 use Rattle.pen.specs.Opened.{Bracket, member, rest, tail, argument, closing, closed}
 use Rattle.pen.specs.Depths.{depths, rest-depths, argument-depths, further-depths, row-depths, First, all-within, first-at, found, first-above}
 use Rattle.pen.specs.Walk.{Writes, writes, deep, after, opens, begins, continues, word, symbol, Walk, ended, too-deep, prepend, onward, next, walk}
-use Rattle.pen.specs.declared.term.Symbol.{Symbol}
-use Rattle.pen.specs.declared.term.Symbol.the-variants.{Empty, Adding, Unknown, Functor}
+use Rattle.pen.specs.declared.begin.Symbol.{Symbol}
+use Rattle.pen.specs.declared.begin.Symbol.the-variants.{Empty, Adding, Unknown, Functor}
 
 -- ---- a walk that stops at the first bracket too deep, and goes on where there is none
 

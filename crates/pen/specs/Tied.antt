@@ -13,8 +13,8 @@ use Rattle.text.specs.Text.{text, after-member, arguments, after-argument, unkn
 use Rattle.pen.specs.Opened.{Bracket, member, rest, tail, argument, closing, closed}
 use Rattle.pen.specs.Depths.{depths, rest-depths, argument-depths, further-depths}
 use Rattle.pen.specs.Walk.{writes, opens, begins, continues, word, symbol, after, Walk, prepend, onward, next, walk}
-use Rattle.pen.specs.declared.term.Symbol.{Symbol}
-use Rattle.pen.specs.declared.term.Symbol.the-variants.{Empty, Adding, Unknown, Functor}
+use Rattle.pen.specs.declared.begin.Symbol.{Symbol}
+use Rattle.pen.specs.declared.begin.Symbol.the-variants.{Empty, Adding, Unknown, Functor}
 use Rattle.pen.specs.Guarded.{guard, guard-append, guard-prepend, guard-none, prepend-append, prepend-nothing, symbol-empty, symbol-adding, symbol-unknown, symbol-functor, next-after, next-opens}
 
 mutual

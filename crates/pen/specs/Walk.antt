@@ -9,8 +9,8 @@ use Rattle.terms.specs.Bounds.{Bounds}
 use Rattle.text.specs.Text.{choose, unknown-name, functor-name}
 use Rattle.pen.specs.Opened.{Bracket, member, rest, tail, argument, closing, closed, Holds}
 use Rattle.pen.specs.Pen.{Wrote}
-use Rattle.pen.specs.declared.term.Symbol.{Symbol}
-use Rattle.pen.specs.declared.term.Symbol.the-variants.{Empty, Adding, Unknown, Functor}
+use Rattle.pen.specs.declared.begin.Symbol.{Symbol}
+use Rattle.pen.specs.declared.begin.Symbol.the-variants.{Empty, Adding, Unknown, Functor}
 use Rattle.pen.specs.declared.bracket.Pen.{Pen}
 use Rattle.pen.specs.declared.bracket.Step.{Step}
 use Rattle.pen.specs.declared.bracket.Step.the-variants.{On, Deep}

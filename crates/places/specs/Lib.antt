@@ -6,5 +6,3 @@ pub mod Relabelled
 pub mod Since
 pub mod Membership
 pub mod Arguments
-pub mod Ranks
-pub mod Ranked

@@ -6,7 +6,7 @@ ghost use Rattle.places.specs.Places.{held, end, resolved, rest-of, Reso
 use terms::bounds::FIRST_FUNCTOR;
 use terms::bounds::FIRST_UNKNOWN;
 use terms::bounds::MEMBER;
-use terms::walk::terms_end;
+use walks::walk::terms_end;
 
 pub fn wide(x: u16) -> usize
     ensures { λ r. ⌜ r ≡ x ⌝ }

@@ -9,10 +9,10 @@ use lib.Seq.{length-take-le}
 use Rattle.terms.specs.Bounds.{Bounds, edition-one}
 use Rattle.terms.specs.declared.refusal.Cause.the-variants.{Buffer}
 use Rattle.terms.specs.declared.refusal.Refusal.{Refusal}
-use Rattle.term_reader.specs.Reading.{read, refused, then-read, then-refused}
-use Rattle.reader.specs.Questions.{Asked, question, fitted, question-into, answer, laid, arities-of, words-of, of-question, Counts}
-use Rattle.reader.specs.declared.question.Question.{Question}
-use Rattle.reader.specs.declared.question.Question.the-variants.{Read, Refused}
+use Rattle.numerals.specs.Reading.{read, refused, then-read, then-refused}
+use Rattle.question_reader.specs.Questions.{Asked, question, fitted, question-into, answer, laid, arities-of, words-of, of-question, Counts}
+use Rattle.question_reader.specs.declared.whole.Question.{Question}
+use Rattle.question_reader.specs.declared.whole.Question.the-variants.{Read, Refused}
 
 -- what the entry owes, of a text s and buffers that held ns and ws: its answer, and what they hold now
 abbrev pub Owed : Bounds → List ℕ → List ℕ → List ℕ → Question → List ℕ → List ℕ → Type 0

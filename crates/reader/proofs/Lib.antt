@@ -1,5 +1,2 @@
-pub mod Headings
-pub mod Lines
-pub mod Sides
 pub mod Laying
 pub mod Buffers

@@ -1,5 +1,3 @@
-// How a question's text becomes words. The definitions are in specs/: `Header` and `Questions` say what is read and what the lent buffers
-// hold then; `WholePlaces` where a text is refused.
+// How a question's text becomes words in lent buffers: `read_question`. `Questions` of `question_reader` says what it answers and writes.
 
-pub mod header;
 pub mod question;

@@ -1,128 +1,15 @@
-// A question's text: its header, and two terms for each equation, with nothing after.
+// A question's text, read into lent buffers.
 ghost use mathlib.Core.Path.{_≡_};
-ghost use mathlib.Core.List.{[], _++_};
+ghost use mathlib.Core.List.{_++_};
 ghost use Prim.Native.Nat.{_≤_};
 ghost use lib.ListN.{length, take, drop};
 ghost use Rattle.terms.specs.Bounds.{edition-one};
-ghost use Rattle.term_reader.specs.Items.{Room};
-ghost use Rattle.term_reader.specs.Terms.{of-got, count-of-got};
-ghost use Rattle.reader.specs.Questions.{side, equation, equations, question, question-into, answer, laid, arities-of, words-of, of-question, Counts};
-use crate::header::Heading;
-use crate::header::read_header;
-use term_reader::bytes;
-use term_reader::bytes::Met;
-use term_reader::bytes::meet;
-use term_reader::bytes::peek;
-use term_reader::term::Got;
-use term_reader::term::read_term;
+ghost use Rattle.question_reader.specs.Questions.{question-into, answer, laid, arities-of, words-of};
+use question_reader::whole::Question;
+use question_reader::whole::read_whole;
 use terms::bounds;
 use terms::refusal::Cause;
 use terms::refusal::Refusal;
-
-// One side of an equation: its key, a term, and LF.
-fn read_side(
-    text: &[u8],
-    at: usize,
-    key: &[u8],
-    unknowns: usize,
-    arities: &[u8],
-    words: &mut [u16],
-    n: usize,
-) -> Got
-    requires { ⌜ Room (now words) n × (at ≤ length (now text)) × (unknowns ≤ 256) × (length (now arities) ≤ 256) ⌝ }
-    ensures exact { λ r. ⌜ of-got r (now (words .exit)) ≡ side edition-one (now (text .entry)) unknowns (now (arities .entry)) (now (key .entry)) at (take n (now (words .entry))) ⌝ }
-    ensures within { λ r. ⌜ count-of-got r ≤ 4096 ⌝ }
-{
-    match meet(text, at, key) {
-        Met::At(p) => match read_term(text, p, unknowns, arities, 0, words, n) {
-            Got::Read(q, m) => match meet(text, q, b"\n") {
-                Met::At(r) => Got::Read(r, m),
-                Met::Refused(r) => Got::Refused(r),
-            },
-            Got::Refused(r) => Got::Refused(r),
-        },
-        Met::Refused(r) => Got::Refused(r),
-    }
-}
-
-// An equation: its left side and its right side.
-fn read_equation(
-    text: &[u8],
-    at: usize,
-    unknowns: usize,
-    arities: &[u8],
-    words: &mut [u16],
-    n: usize,
-) -> Got
-    requires { ⌜ Room (now words) n × (at ≤ length (now text)) × (unknowns ≤ 256) × (length (now arities) ≤ 256) ⌝ }
-    ensures exact { λ r. ⌜ of-got r (now (words .exit)) ≡ equation edition-one (now (text .entry)) unknowns (now (arities .entry)) at (take n (now (words .entry))) ⌝ }
-    ensures within { λ r. ⌜ count-of-got r ≤ 4096 ⌝ }
-{
-    match read_side(text, at, &text::LEFT, unknowns, arities, words, n) {
-        Got::Read(p, m) => read_side(text, p, &text::RIGHT, unknowns, arities, words, m),
-        Got::Refused(r) => Got::Refused(r),
-    }
-}
-
-// So many equations, and the text's end.
-fn read_equations(
-    text: &[u8],
-    at: usize,
-    count: usize,
-    unknowns: usize,
-    arities: &[u8],
-    words: &mut [u16],
-) -> Got
-    requires { ⌜ (length (now words) ≡ 4096) × (at ≤ length (now text)) × (unknowns ≤ 256) × (length (now arities) ≤ 256) ⌝ }
-    ensures exact { λ r. ⌜ of-got r (now (words .exit)) ≡ equations edition-one (now (text .entry)) unknowns (now (arities .entry)) count at [] ⌝ }
-    ensures within { λ r. ⌜ count-of-got r ≤ 4096 ⌝ }
-{
-    let mut left = count;
-    let mut p = at;
-    let mut n = 0;
-    while left != 0 {
-        match read_equation(text, p, unknowns, arities, words, n) {
-            Got::Read(q, m) => {
-                p = q;
-                n = m;
-                left -= 1;
-            }
-            Got::Refused(r) => {
-                return Got::Refused(r);
-            }
-        }
-    }
-    if peek(text, p) == bytes::STOPPED {
-        return Got::Read(text.len(), n);
-    }
-    Got::Refused(Refusal {
-        cause: Cause::Byte,
-        place: p,
-    })
-}
-
-pub enum Question {
-    // unknowns, functors, equations, words
-    Read(usize, usize, usize, usize),
-    Refused(Refusal),
-}
-
-// The whole text, with its arities and its words at the start of a slice each.
-fn read_whole(text: &[u8], table: &mut [u8], held: &mut [u16]) -> Question
-    requires { ⌜ (length (now table) ≡ 256) × (length (now held) ≡ 4096) ⌝ }
-    ensures exact { λ r. ⌜ of-question (length (now (text .entry))) r (now (table .exit)) (now (held .exit)) ≡ question edition-one (now (text .entry)) ⌝ }
-    ensures within { λ r. ⌜ Counts r ⌝ }
-{
-    match read_header(text, table) {
-        Heading::Read(unknowns, functors, count, at) => {
-            match read_equations(text, at, count, unknowns, &table[..functors], held) {
-                Got::Read(_, n) => Question::Read(unknowns, functors, count, n),
-                Got::Refused(r) => Question::Refused(r),
-            }
-        }
-        Heading::Refused(r) => Question::Refused(r),
-    }
-}
 
 // The first n numbers of `from` become the first of `to`.
 fn lay_arities(from: &[u8], n: usize, to: &mut [u8])

@@ -6,8 +6,8 @@ use lib.ListN.{getD}
 use Rattle.terms.specs.Refusal.{number}
 use Rattle.terms.specs.declared.refusal.Refusal.{Refusal}
 use Rattle.search.specs.Ends.{end-number}
-use Rattle.reader.specs.declared.question.Question.{Question}
-use Rattle.reader.specs.declared.question.Question.the-variants as question
+use Rattle.question_reader.specs.declared.whole.Question.{Question}
+use Rattle.question_reader.specs.declared.whole.Question.the-variants as question
 use Rattle.writer.specs.declared.written.Written.{Written}
 use Rattle.writer.specs.declared.written.Written.the-variants as written
 use Rattle.same.specs.declared.Equality.{Equality}

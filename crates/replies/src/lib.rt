@@ -5,7 +5,7 @@
 ghost use mathlib.Core.Path.{_≡_};
 ghost use Rattle.terms.specs.Refusal.{number};
 ghost use Rattle.replies.specs.Replies.{status, out, place-out, of-question, of-written, of-equality, of-solving, of-ran};
-use reader::question::Question;
+use question_reader::whole::Question;
 use same::Equality;
 use same::Solving;
 use search::ends::number_of_end;

@@ -1,4 +1,1 @@
 pub mod Copying
-pub mod Eight
-pub mod Replacing
-pub mod Word

@@ -1,4 +1,3 @@
 pub mod Room
 pub mod Parts
 pub mod Replaced
-pub mod Fitting

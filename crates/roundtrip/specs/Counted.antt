@@ -9,13 +9,13 @@ use lib.Dec.{eqb, ltb}
 use lib.ListN.{length, getD, length-append}
 use Rattle.terms.specs.Bounds.{Bounds}
 use Rattle.terms.specs.Lists.{cases}
-use Rattle.term_reader.specs.Reading.{Reading, read, refused}
-use Rattle.term_reader.specs.Bytes.{byte}
-use Rattle.term_reader.specs.Numbers.{number}
-use Rattle.term_reader.specs.Items.{Coming, due, done, begins, symbol, name, due-member, due-tail, close-empty, an-unknown, arguments, a-functor, a-set, beginning, after, after-tail, after-member, after-argument}
+use Rattle.numerals.specs.Reading.{Reading, read, refused}
+use Rattle.numerals.specs.Bytes.{byte}
+use Rattle.numerals.specs.Numbers.{number}
+use Rattle.items.specs.Items.{Coming, due, done, begins, symbol, name, due-member, due-tail, close-empty, an-unknown, arguments, a-functor, a-set, beginning, after, after-tail, after-member, after-argument}
 use Rattle.term_reader.specs.Terms.{follow, term, list, term-step, list-step}
-use Rattle.term_reader.specs.declared.item.Item.{Item}
-use Rattle.term_reader.specs.declared.item.Item.the-variants.{Member, Tail, Argument}
+use Rattle.items.specs.declared.item.Item.{Item}
+use Rattle.items.specs.declared.item.Item.the-variants.{Member, Tail, Argument}
 use Rattle.roundtrip.specs.Spans.{Holds, goes, stops, holds-then}
 
 anything : {A : Type 0} (X : Reading A) → Holds (λ q a. Unit {0}) X

@@ -14,12 +14,12 @@ use Rattle.terms.specs.Formed.{Formed}
 use Rattle.text.specs.Keys.{arities-key}
 use Rattle.text.specs.Text.{decimal, numbers, further-numbers, text, line}
 use Rattle.text.specs.Decimal.{decimal-bytes, decimal-some}
-use Rattle.term_reader.specs.Reading.{read, then-read}
-use Rattle.term_reader.specs.Bytes.{byte}
+use Rattle.numerals.specs.Reading.{read, then-read}
+use Rattle.numerals.specs.Bytes.{byte}
 use Rattle.term_reader.specs.Terms.{whole-term}
-use Rattle.reader.specs.Header.{arity-list, arity-line}
-use Rattle.reader.specs.Header as header
-use Rattle.reader.specs.Questions.{side}
+use Rattle.header_reader.specs.Header.{arity-list, arity-line}
+use Rattle.header_reader.specs.Header as header
+use Rattle.question_reader.specs.Questions.{side}
 use Rattle.roundtrip.specs.Suffix.{first-byte, after-byte, after-bytes, key-read}
 use Rattle.roundtrip.specs.Decimals.{early, Digits, between-read}
 use Rattle.roundtrip.specs.Names.{line-end}

@@ -14,9 +14,9 @@ use Rattle.terms.specs.Lists.{All, none, both, cases}
 use Rattle.terms.specs.declared.refusal.Refusal.{Refusal}
 use Rattle.text.specs.Text.{decimal}
 use Rattle.text.specs.Decimal.{last-digit, decimal-digit, decimal-more}
-use Rattle.term_reader.specs.Reading.{Reading, read, refused, and-then}
-use Rattle.term_reader.specs.Bytes.{byte, byte-in, in-text, met, meets}
-use Rattle.term_reader.specs.Numbers.{digit, digits, number, between}
+use Rattle.numerals.specs.Reading.{Reading, read, refused, and-then}
+use Rattle.numerals.specs.Bytes.{byte, byte-in, in-text, met, meets}
+use Rattle.numerals.specs.Numbers.{digit, digits, number, between}
 
 -- what a reading holds, if it was not refused
 pub data Holds {A : Type 0} (P : ℕ → A → Type 0) : Reading A → Type 0 where

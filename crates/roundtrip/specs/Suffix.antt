@@ -7,9 +7,9 @@ use mathlib.Core.List.{List, [], _∷_, _++_}
 use borrow.Author.Tests.{eq-eqb}
 use lib.ListN.{length, drop, getD, length-drop}
 use lib.Seq.{getD-drop, drop-drop, drop-append-seam}
-use Rattle.term_reader.specs.Reading.{read}
-use Rattle.term_reader.specs.Bytes.{byte, met, meets}
-use Rattle.term_reader.specs.declared.bytes.Met.the-variants.{At}
+use Rattle.numerals.specs.Reading.{read}
+use Rattle.numerals.specs.Bytes.{byte, met, meets}
+use Rattle.numerals.specs.declared.bytes.Met.the-variants.{At}
 
 module _ (s : List ℕ) (p : ℕ) where
   pub first-byte : (x : ℕ) (r : List ℕ) → drop p s ≡ x ∷ r → byte s p ≡ x

@@ -12,13 +12,13 @@ use Rattle.terms.specs.Lists.{cases}
 use Rattle.terms.specs.Term.{Term, Terms, unknown, empty, with, functor, none, more, words, words*, count, nesting, inside, deepest}
 use Rattle.terms.specs.Formed.{Formed, Formed*, formed-unknown, formed-empty, formed-with, formed-functor, formed-none, formed-more}
 use Rattle.text.specs.Text.{decimal, unknown-name, functor-name, text, after-member, arguments, after-argument}
-use Rattle.term_reader.specs.Reading.{and-then}
-use Rattle.term_reader.specs.Bytes.{byte}
-use Rattle.term_reader.specs.Items.{Coming, due, done, begins, symbol, name, due-member, due-tail, close-empty, an-unknown, a-functor, a-set, beginning, after, after-tail, after-member as member-passed, after-argument as argument-passed}
-use Rattle.term_reader.specs.Items as items
+use Rattle.numerals.specs.Reading.{and-then}
+use Rattle.numerals.specs.Bytes.{byte}
+use Rattle.items.specs.Items.{Coming, due, done, begins, symbol, name, due-member, due-tail, close-empty, an-unknown, a-functor, a-set, beginning, after, after-tail, after-member as member-passed, after-argument as argument-passed}
+use Rattle.items.specs.Items as items
 use Rattle.term_reader.specs.Terms.{follow, term, list, term-step, list-step}
-use Rattle.term_reader.specs.declared.item.Item.{Item}
-use Rattle.term_reader.specs.declared.item.Item.the-variants.{Member, Tail, Argument}
+use Rattle.items.specs.declared.item.Item.{Item}
+use Rattle.items.specs.declared.item.Item.the-variants.{Member, Tail, Argument}
 use Rattle.roundtrip.specs.Suffix.{first-byte}
 use Rattle.roundtrip.specs.Spans.{Holds, goes, stops, holds-then, holds-map, one-test, join, number-holds}
 

@@ -11,13 +11,13 @@ use Rattle.terms.specs.Bounds.{Bounds}
 use Rattle.terms.specs.Term.{Term, Terms, unknown, empty, with, functor, none, more, words, words*, count, nesting, inside, bracketed, deepest}
 use Rattle.terms.specs.Formed.{Formed, Formed*, formed-unknown, formed-with, formed-functor, formed-more}
 use Rattle.text.specs.Text.{decimal, unknown-name, functor-name, text, after-member, arguments, after-argument}
-use Rattle.term_reader.specs.Reading.{Reading, read, and-then, then-read}
-use Rattle.term_reader.specs.Bytes.{byte, in-text}
-use Rattle.term_reader.specs.Items.{Coming, due, done, symbol, due-member, due-tail, close-empty, a-set, beginning, after, after-tail, after-member as member-passed, after-argument as argument-passed}
-use Rattle.term_reader.specs.Items as items
+use Rattle.numerals.specs.Reading.{Reading, read, and-then, then-read}
+use Rattle.numerals.specs.Bytes.{byte, in-text}
+use Rattle.items.specs.Items.{Coming, due, done, symbol, due-member, due-tail, close-empty, a-set, beginning, after, after-tail, after-member as member-passed, after-argument as argument-passed}
+use Rattle.items.specs.Items as items
 use Rattle.term_reader.specs.Terms.{follow, term, list, term-step, list-step}
-use Rattle.term_reader.specs.declared.item.Item.{Item}
-use Rattle.term_reader.specs.declared.item.Item.the-variants.{Member, Tail, Argument}
+use Rattle.items.specs.declared.item.Item.{Item}
+use Rattle.items.specs.declared.item.Item.the-variants.{Member, Tail, Argument}
 use Rattle.roundtrip.specs.Suffix.{first-byte, after-byte, after-bytes}
 use Rattle.roundtrip.specs.Decimals.{Ends, early}
 use Rattle.roundtrip.specs.Names.{Closed, set-close, closed-ends, closed-bracket, after-closed, argument-closed, text-begun, begun-begins, begun-no-close, unknown-begins, functor-begins}

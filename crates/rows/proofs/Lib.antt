@@ -1,11 +1,3 @@
 pub mod Walks
-pub mod Passing
-pub mod Absent
-pub mod Binding
-pub mod Finishing
-pub mod Keeping
 pub mod Steps
 pub mod Firsts
-pub mod Pairing
-pub mod Gathering
-pub mod Joins

@@ -9,8 +9,8 @@ use Rattle.room.specs.Room.{seg, Within}
 use Rattle.room.specs.Parts.{Apart, ReplaceParts, apart-part}
 use Rattle.room.specs.Replaced.{replaced}
 use Rattle.terms.specs.Bounds.{Bounds}
-use Rattle.rows.specs.declared.bind.Rest.{Rest}
-use Rattle.rows.specs.declared.pile.Part.the-variants.{Entries, Others}
+use Rattle.rows.specs.declared.parts.Rest.{Rest}
+use Rattle.rows.specs.declared.parts.Part.the-variants.{Entries, Others}
 use Rattle.rows.specs.Pile.{selection}
 
 unfoldable pub pending-piece : Bounds → (arities room : List ℕ) → Rest → (x by m : ℕ) → List ℕ

@@ -9,11 +9,11 @@ use lib.Dec.{leb}
 use lib.ListN.{length, length-append}
 use borrow.Author.Tests.{le-leb, lt-leb}
 use Rattle.room.specs.Room.{put, length-put, put-nil, put-put}
-use Rattle.room.specs.Fitting.{told-full}
-use Rattle.room.specs.declared.Copied.the-variants.{Done, Full}
-use Rattle.rows.specs.declared.bind.Rest.{Rest}
-use Rattle.rows.specs.declared.bind.Made.{Made}
-use Rattle.rows.specs.declared.bind.Made.the-variants.{Large, Live}
+use Rattle.replace.specs.Fitting.{told-full}
+use Rattle.replace.specs.declared.Copied.the-variants.{Done, Full}
+use Rattle.rows.specs.declared.parts.Rest.{Rest}
+use Rattle.rows.specs.declared.parts.Made.{Made}
+use Rattle.rows.specs.declared.parts.Made.the-variants.{Large, Live}
 use Rattle.rows.specs.declared.header.Header.{Header}
 use Rattle.rows.specs.Header.{header-of}
 use Rattle.rows.specs.Wrote.{Wrote, done-fits, done-length, done-room}

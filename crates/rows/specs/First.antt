@@ -16,7 +16,7 @@ use Rattle.terms.specs.Answers.{binding-words}
 use Rattle.terms.specs.Flat.{length-words}
 use Rattle.search.specs.State.{State, pend, size-equations, size-named, state-size}
 use Rattle.search.specs.Classify.{classify}
-use Rattle.rows.specs.declared.bind.Rest.{Rest}
+use Rattle.rows.specs.declared.parts.Rest.{Rest}
 use Rattle.rows.specs.declared.first.First.{First}
 use Rattle.rows.specs.declared.first.Subject.{Subject}
 use Rattle.rows.specs.declared.header.Header.{Header}

@@ -19,8 +19,8 @@ use Rattle.terms.specs.Answers.{Named}
 use Rattle.terms.specs.Lists.{All, none, both, any, or-neither}
 use Rattle.terms.specs.Flat.{length-words}
 use Rattle.search.specs.Children.{entries, others}
-use Rattle.rows.specs.declared.pile.Part.{Part}
-use Rattle.rows.specs.declared.pile.Part.the-variants.{Entries, Others}
+use Rattle.rows.specs.declared.parts.Part.{Part}
+use Rattle.rows.specs.declared.parts.Part.the-variants.{Entries, Others}
 use Rattle.rows.specs.Flat.{holds}
 use Rattle.rows.specs.Ended.{ended, ended-shift, term-end, term-end-words}
 

@@ -7,9 +7,9 @@ use native.Mathlib.Omega.{arith}
 use lib.ListN.{length, length-append}
 use Rattle.room.specs.Room.{put, length-put, put-nil, put-put}
 use Rattle.room.specs.Replaced.{replaced}
-use Rattle.room.specs.Fitting.{fitting, told, fitting-all, length-fitting, told-of-le, told-of-lt, told-done, told-full, further, told-append}
-use Rattle.room.specs.declared.Copied.{Copied}
-use Rattle.room.specs.declared.Copied.the-variants.{Done, Full}
+use Rattle.replace.specs.Fitting.{fitting, told, fitting-all, length-fitting, told-of-le, told-of-lt, told-done, told-full, further, told-append}
+use Rattle.replace.specs.declared.Copied.{Copied}
+use Rattle.replace.specs.declared.Copied.the-variants.{Done, Full}
 
 -- r is r₀ with a piece written at a place, and a what the writer told
 pub record Wrote (r₀ : List ℕ) (place capacity : ℕ) (piece : List ℕ) (a : Copied) (r : List ℕ) : Type 0 where

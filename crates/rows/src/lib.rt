@@ -1,12 +1,16 @@
-// How one state becomes the next, in place: a state is a row of the room, and a step writes the child's row from it.
+// A state as a row of the room: eight header words, then what is pending, the pile and the bindings.
+//
+//     header  the five numbers of a row, and the place of its body
+//     walk    walks over the words of terms
+//     step    the step that an equation in words calls for
+//     first   a row's numbers, its first equation, and what is left after it
+//     parts   what the code of a step passes on
+//
+// In specs/, `Row` says which words a state has in a row, and what a step is to write; `Pile` and `States` are the words of a pile and of a state,
+// `Stepping` ties a step in words to `classify`, `Bind` and `Finished` are the words of a row in which an unknown is bound.
 
-pub mod bind;
-pub mod child;
 pub mod first;
 pub mod header;
-pub mod join;
-pub mod keep;
-pub mod pile;
-pub mod single;
+pub mod parts;
 pub mod step;
 pub mod walk;

@@ -29,7 +29,7 @@ pub fn is_unknown(word: u16) -> bool
 pub fn terms_after(arities: &[u8], word: u16) -> usize
     ensures { λ r. ⌜ (r ≡ takes edition-one (now (arities .entry)) word) × (r < 256) ⌝ }
 {
-    terms::walk::terms_after(arities, word) as usize
+    walks::walk::terms_after(arities, word) as usize
 }
 
 // `end_of_term`, word by word: so many terms are due.

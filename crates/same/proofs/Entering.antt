@@ -10,18 +10,18 @@ use lib.ListN.{length, take, drop, length-append}
 use lib.Seq.{length-take-le}
 use Rattle.room.specs.Room.{seg, put, put-put, seg-put-same}
 use Rattle.terms.specs.Bounds.{edition-one, edition-one-proper}
-use Rattle.terms.specs.Check.{check-question, check-row}
+use Rattle.checks.specs.Check.{check-question, check-row}
 use Rattle.terms.specs.Formed.{Equation, sides}
-use Rattle.terms.specs.Lent.{Row, Asked, table-worded, good-worded, check-row-ground, check-question-asked}
-use Rattle.terms.specs.Pushed.{formed-top, formed-drop}
+use Rattle.checks.specs.Lent.{Row, Asked, table-worded, good-worded, check-row-ground, check-question-asked}
+use Rattle.checks.specs.Pushed.{formed-top, formed-drop}
 use Rattle.terms.specs.Reading.{read, top, question-of}
 use Rattle.terms.specs.declared.refusal.Checked.the-variants.{Fine}
 use Rattle.laws.specs.Equal.{equal}
 use Rattle.laws.specs.Values.{in-order, solves-test}
 use Rattle.places.specs.Places.{terms-from, held, values, Placed}
 use Rattle.places.specs.Opened.{value-ground}
-use Rattle.same.specs.Holding.{holding, Equations, WithValues}
-use Rattle.same.proofs.Asking.{from-first, from-values, holding-solves}
+use Rattle.holding.specs.Holding.{holding, Equations, WithValues}
+use Rattle.holding.proofs.Asking.{from-first, from-values, holding-solves}
 
 and-true : (b : Bool) → (b && true) ≡ b
 and-true true = refl

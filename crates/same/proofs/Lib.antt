@@ -1,5 +1,1 @@
-pub mod Settling
-pub mod Holds
-pub mod Started
-pub mod Asking
 pub mod Entering

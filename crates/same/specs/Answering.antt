@@ -4,7 +4,7 @@ use mathlib.Core.List.{List}
 use mathlib.Core.Bool.{Bool, true, false}
 use lib.ListN.{drop}
 use Rattle.terms.specs.Bounds.{Bounds}
-use Rattle.terms.specs.Check.{check-question, check-row}
+use Rattle.checks.specs.Check.{check-question, check-row}
 use Rattle.terms.specs.Reading.{read, top, question-of}
 use Rattle.terms.specs.declared.refusal.Checked.{Checked}
 use Rattle.terms.specs.declared.refusal.Checked.the-variants as checked

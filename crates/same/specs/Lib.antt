@@ -1,3 +1,1 @@
-pub mod Holding
 pub mod Answering
-pub mod Settling

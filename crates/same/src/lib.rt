@@ -1,29 +1,23 @@
 // How two terms are compared in words: `equal` tests two ground terms, `solves` whether given ground values solve a question. Each takes any input, and
 // writes nothing.
 //
-// A client's contracts cite `specs/Answering.antt`, what the two answer. Crate `places` compares the terms at two places; here `hold` goes through equations
-// with it, and `settle` compares all places beforehand where values may stand in many, which `spread` tells.
+// A client's contracts cite `specs/Answering.antt`, what the two answer. Crate `compare` compares the terms at two places, and `holding` goes through equations.
 ghost use mathlib.Core.Path.{_≡_};
 ghost use lib.ListN.{drop};
 ghost use Rattle.terms.specs.Bounds.{edition-one};
-ghost use Rattle.terms.specs.Check.{check-question, check-row};
+ghost use Rattle.checks.specs.Check.{check-question, check-row};
 ghost use Rattle.terms.specs.Reading.{read, top, question-of};
 ghost use Rattle.terms.specs.declared.refusal.Checked.the-variants.{Fine};
 ghost use Rattle.laws.specs.Equal.{equal as test};
 ghost use Rattle.laws.specs.Values.{in-order, solves-test};
 ghost use Rattle.same.specs.Answering.{equal-answer, solves-answer};
-
-pub mod hold;
-pub mod settle;
-pub mod spread;
-
-use crate::hold::all_hold;
-use crate::hold::values_hold;
+use checks::check::check_question;
+use checks::check::check_row;
+use holding::hold::all_hold;
+use holding::hold::values_hold;
 use places::classes::blank;
 use room::copy_in;
 use terms::bounds::UNKNOWNS;
-use terms::check::check_question;
-use terms::check::check_row;
 use terms::refusal::Checked;
 use terms::refusal::Refusal;
 

@@ -1,13 +1,3 @@
-pub mod Opening
-pub mod Sounding
-pub mod Standing
-pub mod Desking
-pub mod Showing
-pub mod Turning
-pub mod Meeting
-pub mod Entering
-pub mod Hearing
-pub mod Looping
 pub mod Starting
 pub mod Rooting
 pub mod Telling

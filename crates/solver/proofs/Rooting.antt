@@ -21,12 +21,13 @@ use Rattle.rows.specs.Header.{header-of}
 use Rattle.rows.specs.Pile.{pile-words}
 use Rattle.rows.specs.States.{pending-words, body-words, length-pending}
 use Rattle.rows.specs.Row.{Fresh, header-for, state-words}
-use Rattle.solver.specs.Passing.{spent-stops, large-stops}
-use Rattle.solver.specs.Result.{loan, ending, gives}
-use Rattle.solver.specs.Running.{given, remains, Ends}
+use Rattle.search_loop.specs.Passing.{spent-stops, large-stops}
+use Rattle.visits.specs.Loans.{loan, ending}
+use Rattle.solver.specs.Result.{gives}
+use Rattle.search_loop.specs.Running.{given, remains, Ends}
 use Rattle.solver.specs.Start.{rooted, nothing, Asking, whole-run, Rooted}
 use Rattle.solver.proofs.Starting.{row-fits, ends-as}
-use Rattle.solver.proofs.Turning.{stops-here, suits-kept}
+use Rattle.search_loop.proofs.Turning.{stops-here, suits-kept}
 
 module _ {unknowns : ℕ} {arities ws : List ℕ} {limits : Limits} {l : List ℕ} (A : Asking unknowns arities ws limits l) where
   abbrev q : Question

@@ -22,14 +22,14 @@ use Rattle.record.specs.declared.Noted.{Noted}
 use Rattle.record.specs.declared.Noted.the-variants.{Held, Space as NoSpace}
 use Rattle.record.specs.Counts.{counted, with-answers, fits, answer-in, note-by, held-by, Notable}
 use Rattle.record.specs.Answering.{answer-held, held-notable}
-use Rattle.solver.specs.declared.turn.Ending.{Ending}
-use Rattle.solver.specs.Desk.{nothing-open}
-use Rattle.solver.specs.Passing.{long-overflows}
-use Rattle.solver.specs.Path.{Row, no-rows, a-row, fresh-number}
-use Rattle.solver.specs.Result.{loan, needed, ending}
-use Rattle.solver.specs.Running.{Given, given, remains, Suits, Running, Ends}
+use Rattle.visits.specs.declared.node.Ending.{Ending}
+use Rattle.search_loop.specs.Desk.{nothing-open}
+use Rattle.search_loop.specs.Passing.{long-overflows}
+use Rattle.search_loop.specs.Path.{Row, no-rows, a-row, fresh-number}
+use Rattle.visits.specs.Loans.{loan, needed, ending}
+use Rattle.search_loop.specs.Running.{Given, given, remains, Suits, Running, Ends}
 use Rattle.solver.specs.Start.{nothing, Rooted}
-use Rattle.solver.proofs.Entering.{overflows-here, goes-here, more, then, one-at-most}
+use Rattle.search_loop.proofs.Entering.{overflows-here, goes-here, more, then, one-at-most}
 
 pub row-fits : {arities : List ℕ} {limits : Limits} {l : List ℕ} → Suits arities limits l → limits .size + 8 ≤ length l
 unfolding needed

@@ -9,8 +9,8 @@ use borrow.Author.Tests.{le-ltb, lt-ltb, ltb-false}
 use Rattle.room.specs.Room.{put, put-nil}
 use Rattle.room.specs.Replaced.{by-test}
 use Rattle.terms.specs.Bounds.{edition-one, edition-one-proper}
-use Rattle.terms.specs.Check.{check-question, after-check}
-use Rattle.terms.specs.Lent.{check-question-asked}
+use Rattle.checks.specs.Check.{check-question, after-check}
+use Rattle.checks.specs.Lent.{check-question-asked}
 use Rattle.terms.specs.Reading.{question-of}
 use Rattle.terms.specs.declared.refusal.Cause.the-variants.{Limit, Buffer}
 use Rattle.terms.specs.declared.refusal.Refusal.{Refusal}
@@ -21,10 +21,11 @@ use Rattle.search.specs.declared.limits.Lent.the-variants.{Within, Above}
 use Rattle.search.specs.Lent.{lent}
 use Rattle.solver.specs.declared.Ran.{Ran}
 use Rattle.solver.specs.declared.Ran.the-variants.{Ended, Refused}
-use Rattle.solver.specs.declared.turn.Ending.{Ending}
-use Rattle.solver.specs.Result.{needed, ending, Told, refuses, gives, told-within, told, result, words-told}
-use Rattle.solver.specs.Running.{Ends}
-use Rattle.solver.proofs.Standing.{needed-small}
+use Rattle.visits.specs.declared.node.Ending.{Ending}
+use Rattle.visits.specs.Loans.{needed, ending}
+use Rattle.solver.specs.Result.{Told, refuses, gives, told-within, told, result, words-told}
+use Rattle.search_loop.specs.Running.{Ends}
+use Rattle.search_loop.proofs.Standing.{needed-small}
 use Rattle.solver.specs.Start.{Asking, Bounded, outcome, whole-run}
 
 -- ---- what comes back

@@ -1,12 +1,11 @@
 -- What a run gives, and what a call of it gives: limits are tested, then the question, then the room; then the run is that of `search`.
-use Prim.Native.Nat.{ℕ, _+_, _*_}
+use Prim.Native.Nat.{ℕ}
 use mathlib.Core.Bool.{cond}
 use mathlib.Core.List.{List, []}
 use lib.Dec.{ltb}
-use lib.ListN.{length}
 use Rattle.terms.specs.Bounds.{edition-one}
 use Rattle.terms.specs.Answers.{listed}
-use Rattle.terms.specs.Check.{check-question, after-check}
+use Rattle.checks.specs.Check.{check-question, after-check}
 use Rattle.terms.specs.Reading.{question-of}
 use Rattle.terms.specs.declared.refusal.Cause.the-variants.{Limit, Buffer}
 use Rattle.terms.specs.declared.refusal.Refusal.{Refusal}
@@ -14,21 +13,10 @@ use Rattle.search.specs.declared.limits.Limits.{Limits}
 use Rattle.search.specs.declared.limits.Lent.{Lent}
 use Rattle.search.specs.declared.limits.Lent.the-variants.{Within, Above}
 use Rattle.search.specs.Lent.{lent}
-use Rattle.search.specs.Run.{Loan, Outcome, ran}
-use Rattle.solver.specs.declared.turn.Ending.{Ending}
+use Rattle.search.specs.Run.{Outcome, ran}
+use Rattle.visits.specs.Loans.{loan, needed, ending}
 use Rattle.solver.specs.declared.Ran.{Ran}
 use Rattle.solver.specs.declared.Ran.the-variants.{Ended, Refused}
-
--- the outcome's end and numbers
-unfoldable pub ending : Outcome → Ending
-ending o = record { end = o .end; counts = record { visited = o .visited; answers = length (o .answers); words = length (listed (o .answers)) } }
-
-unfoldable pub loan : Limits → (space : ℕ) → Loan
-loan limits space = record { steps = limits .steps; depth = limits .depth; size = limits .size; space = space }
-
--- the words that the room must have
-unfoldable pub needed : Limits → ℕ
-needed limits = (limits .depth + 8) * (limits .size + 8)
 
 -- what is told: a refusal, or an outcome
 pub data Told : Type 0 where

@@ -16,8 +16,8 @@ use Rattle.turns.specs.Going.{to-come}
 use Rattle.rows.specs.Row.{Fresh}
 use Rattle.rows.specs.Header.{header-of}
 use Rattle.record.specs.declared.Record.{Record}
-use Rattle.solver.specs.Result.{loan, ending}
-use Rattle.solver.specs.Running.{Suits, Given, given, remains}
+use Rattle.visits.specs.Loans.{loan, ending}
+use Rattle.search_loop.specs.Running.{Suits, Given, given, remains}
 
 -- the room with the root's row: the question's words are pending
 unfoldable pub rooted : List ℕ → List ℕ → ℕ → List ℕ

@@ -1,37 +1,32 @@
-// How the whole tree is visited within limits: the rows of the path stand in the lent room, and a loop takes one turn after the other.
+// A run: limits, question and room are tested, the root's row is written, and the search goes on from it.
 //
-//     path  the rows of the path
-//     turn  one turn, and the loop
-//
-// Crate `record` counts the nodes, and lists the answers. In specs/, `Result` says what a run gives for any input; `Running` is the loop's invariant, over
-// `Path` and `Desk`; `Passing` has the laws of dead ends passed at once.
+// In specs/, `Result` says what a run gives for any input; `Start` is where the search starts.
 ghost use mathlib.Core.Path.{_≡_};
 ghost use lib.ListN.{length};
 ghost use Rattle.room.specs.Room.{put};
 ghost use Rattle.terms.specs.declared.refusal.Refusal.{Refusal as Why};
 ghost use Rattle.search.specs.declared.limits.Lent.the-variants as lents;
 ghost use Rattle.solver.specs.Result.{told, told-within, refuses, result, words-told};
-ghost use Rattle.solver.specs.Running.{Given, Ends};
+ghost use Rattle.search_loop.specs.Running.{Given, Ends};
 ghost use Rattle.solver.specs.Start.{Asking, Bounded, Rooted, whole-run};
 
-pub mod path;
-pub mod turn;
+pub mod root;
 
-use path::write_root;
+use checks::check::check_question;
 use record::Noted;
 use record::Record;
 use record::note;
 use record::with_nodes;
+use root::write_root;
 use rows::header::HEADER;
 use search::ends::End;
 use search::limits::Lent;
 use search::limits::Limits;
-use terms::check::check_question;
+use search_loop::turn::search_on;
 use terms::refusal::Cause;
 use terms::refusal::Checked;
 use terms::refusal::Refusal;
-use turn::Ending;
-use turn::search_on;
+use visits::node::Ending;
 
 // What a run answers.
 pub enum Ran {

@@ -14,31 +14,31 @@ use Rattle.terms.specs.Term.{Term, words, kernel, over}
 use Rattle.terms.specs.Shape.{is-unknown, number}
 use Rattle.search.specs.State.{State, live, pend, piled}
 use Rattle.search.specs.Children.{settle, pile-up}
-use Rattle.rows.specs.declared.bind.Rest.{Rest}
+use Rattle.rows.specs.declared.parts.Rest.{Rest}
 use Rattle.rows.specs.Pile.{pile-words}
 use Rattle.rows.specs.Members.{member-words, members-append, words-over}
-use Rattle.rows.specs.Child.{extended}
+use Rattle.binding.specs.Child.{extended}
 use Rattle.terms.specs.Formed.{Equation}
 use Rattle.search.specs.declared.steps.Tails.the-variants.{Same}
 use Rattle.search.specs.Classify.{tails-by, tails}
-use Rattle.room.specs.declared.Copied.the-variants.{Done, Full}
-use Rattle.rows.specs.declared.bind.Made.{Made}
-use Rattle.rows.specs.declared.bind.Made.the-variants.{Large}
+use Rattle.replace.specs.declared.Copied.the-variants.{Done, Full}
+use Rattle.rows.specs.declared.parts.Made.{Made}
+use Rattle.rows.specs.declared.parts.Made.the-variants.{Large}
 use Rattle.rows.specs.Wrote.{Wrote}
 use Rattle.rows.specs.Finished.{Finished}
 use Rattle.rows.specs.Header.{header-of}
-use Rattle.rows.specs.Keep.{kept-piece, kept-header}
+use Rattle.binding.specs.Keep.{kept-piece, kept-header}
 use Rattle.rows.specs.States.{pending-words}
 use Rattle.rows.specs.Row.{Makes}
-use Rattle.splits.specs.Due.{Due, child, child-is}
-use Rattle.splits.proofs.Making.{Below, makes-before, due-elsewhere}
+use Rattle.tails.specs.Due.{Due, child, child-is}
+use Rattle.tails.proofs.Making.{Below, makes-before, due-elsewhere}
 use Rattle.splits.proofs.Keeping.{kept-full, kept-made}
-use Rattle.splits.specs.declared.sides.Sides.{Sides}
-use Rattle.splits.specs.Gathered.{joining-piece, TailParts}
-use Rattle.splits.specs.Opened.{Parent, Opened, Elsewhere, elsewhere-next, elsewhere-put, opened-after, to-left, to-right, news}
+use Rattle.choices.specs.declared.sides.Sides.{Sides}
+use Rattle.choices.specs.Gathered.{joining-piece, TailParts}
+use Rattle.choices.specs.Opened.{Parent, Opened, Elsewhere, elsewhere-next, elsewhere-put, opened-after, to-left, to-right, news}
 use Rattle.splits.specs.Kept.{entry-of, fourth, Entry, EntryLaid}
-use Rattle.splits.proofs.Opening.{numbers, s-stands, s-noted, r-noted, left-parts, right-parts, left-is, right-is}
-use Rattle.splits.proofs.Tailing.{is-the-unknown, unknown-word}
+use Rattle.tails.proofs.Opening.{numbers, s-stands, s-noted, r-noted, left-parts, right-parts, left-is, right-is}
+use Rattle.tails.proofs.Tailing.{is-the-unknown, unknown-word}
 
 member-words-none : (ms : List Term) → length (member-words edition-one ms) ≡ 0 → ms ≡ []
 unfolding member-words

@@ -9,9 +9,9 @@ use borrow.Author.Tests.{eqb-true}
 use Rattle.room.specs.Room.{seg, put, Within, length-put, length-seg, put-nil, put-put, seg-put-same, seg-cons, seg-zero}
 use Rattle.room.specs.Parts.{Apart, CopyParts, earlier, later, apart-part, seg-put}
 use Rattle.room.specs.Replaced.{replaced, image, by-test}
-use Rattle.room.specs.Fitting.{told-full, told-of-le, told-of-lt, further}
-use Rattle.room.specs.declared.Copied.{Copied}
-use Rattle.room.specs.declared.Copied.the-variants.{Done, Full}
+use Rattle.replace.specs.Fitting.{told-full, told-of-le, told-of-lt, further}
+use Rattle.replace.specs.declared.Copied.{Copied}
+use Rattle.replace.specs.declared.Copied.the-variants.{Done, Full}
 use Rattle.terms.specs.Bounds.{edition-one}
 use Rattle.terms.specs.Term.{words, kernel}
 use Rattle.terms.specs.Formed.{Equation, sides, row}
@@ -20,25 +20,25 @@ use Rattle.search.specs.declared.steps.Tails.the-variants.{Neither}
 use Rattle.search.specs.State.{State, live, pend, state-size}
 use Rattle.search.specs.Classify.{tails}
 use Rattle.search.specs.Children.{settle}
-use Rattle.rows.specs.declared.bind.Rest.{Rest}
-use Rattle.rows.specs.declared.bind.Made.{Made}
-use Rattle.rows.specs.declared.bind.Made.the-variants.{Large}
+use Rattle.rows.specs.declared.parts.Rest.{Rest}
+use Rattle.rows.specs.declared.parts.Made.{Made}
+use Rattle.rows.specs.declared.parts.Made.the-variants.{Large}
 use Rattle.rows.specs.Bind.{FinishParts}
 use Rattle.rows.specs.Header.{header-of}
 use Rattle.rows.specs.Finished.{Finished}
-use Rattle.rows.specs.Keep.{kept-piece, kept-header}
+use Rattle.binding.specs.Keep.{kept-piece, kept-header}
 use Rattle.rows.specs.Pile.{pile-words}
 use Rattle.rows.specs.Wrote.{Wrote, wrote-length, wrote-more, full-more, done-fits, done-length, done-room}
 use Rattle.rows.specs.States.{pending-words, length-pending, pending-append}
 use Rattle.rows.specs.Row.{Makes}
-use Rattle.rows.specs.Child.{extended, Piled, keep-makes}
-use Rattle.splits.specs.declared.sides.Sides.{Sides}
-use Rattle.splits.specs.Gathered.{equations-piece, MeetParts}
-use Rattle.splits.specs.Opened.{Parent, Opened, Elsewhere, news}
-use Rattle.splits.specs.Due.{Due, child, child-is}
+use Rattle.binding.specs.Child.{extended, Piled, keep-makes}
+use Rattle.choices.specs.declared.sides.Sides.{Sides}
+use Rattle.choices.specs.Gathered.{equations-piece, MeetParts}
+use Rattle.choices.specs.Opened.{Parent, Opened, Elsewhere, news}
+use Rattle.tails.specs.Due.{Due, child, child-is}
 use Rattle.splits.specs.Kept.{tails-piece, TailsParts}
-use Rattle.splits.proofs.Opening.{numbers, equation-parts, equations-is, s-stands, r-stands}
-use Rattle.splits.proofs.Making.{below-put, makes-before, makes-large, wrote-elsewhere, row-elsewhere, due-target, due-elsewhere}
+use Rattle.tails.proofs.Opening.{numbers, equation-parts, equations-is, s-stands, r-stands}
+use Rattle.tails.proofs.Making.{below-put, makes-before, makes-large, wrote-elsewhere, row-elsewhere, due-target, due-elsewhere}
 
 -- a word that stands for itself
 pub replaced-self : (x : ℕ) (ws : List ℕ) → replaced x (x ∷ []) ws ≡ ws

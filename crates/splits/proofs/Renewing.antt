@@ -9,36 +9,36 @@ use lib.Dec.{eqb}
 use lib.ListN.{length, getD}
 use borrow.Author.Tests.{eqb-false}
 use Rattle.room.specs.Room.{seg, put, seg-seg}
-use Rattle.room.specs.Fitting.{told-done, told-full}
-use Rattle.room.specs.declared.Copied.{Copied}
-use Rattle.room.specs.declared.Copied.the-variants.{Done, Full}
+use Rattle.replace.specs.Fitting.{told-done, told-full}
+use Rattle.replace.specs.declared.Copied.{Copied}
+use Rattle.replace.specs.declared.Copied.the-variants.{Done, Full}
 use Rattle.terms.specs.Bounds.{edition-one, edition-one-proper}
 use Rattle.terms.specs.Lists.{any}
 use Rattle.terms.specs.Term.{Term, unknown, words, kernel, occurs, over, subst}
 use Rattle.terms.specs.Flat.{length-words}
-use Rattle.rows.specs.declared.bind.Rest.{Rest}
-use Rattle.rows.specs.declared.bind.Made.{Made}
-use Rattle.rows.specs.declared.bind.Made.the-variants.{Dead, Names, Large}
+use Rattle.rows.specs.declared.parts.Rest.{Rest}
+use Rattle.rows.specs.declared.parts.Made.{Made}
+use Rattle.rows.specs.declared.parts.Made.the-variants.{Dead, Names, Large}
 use Rattle.search.specs.State.{State, Node, dead, live, pend, renewed}
 use Rattle.search.specs.Children.{bound-state, bound, then-bound, settle}
 use Rattle.search.specs.declared.steps.Tails.the-variants.{Different}
 use Rattle.search.specs.Classify.{tails-by, tails}
 use Rattle.terms.specs.Shape.{is-unknown, number}
 use Rattle.rows.specs.Row.{Makes}
-use Rattle.rows.specs.Child.{ahead}
+use Rattle.binding.specs.Child.{ahead}
 use Rattle.rows.specs.Flat.{holds}
 use Rattle.rows.specs.Members.{member-words, holds-members}
 use Rattle.room.specs.Parts.{earlier}
-use Rattle.splits.specs.declared.sides.Sides.{Sides}
+use Rattle.choices.specs.declared.sides.Sides.{Sides}
 use Rattle.splits.specs.declared.different.Joined.{Joined}
-use Rattle.splits.specs.Opened.{Parent, Elsewhere, elsewhere-next, elsewhere-put, to-left, to-right, news}
-use Rattle.splits.specs.Due.{Due, child, child-is}
+use Rattle.choices.specs.Opened.{Parent, Elsewhere, elsewhere-next, elsewhere-put, to-left, to-right, news}
+use Rattle.tails.specs.Due.{Due, child, child-is}
 use Rattle.splits.specs.Kept.{fourth}
 use Rattle.splits.specs.Occurring.{bound-size, occurs-subst, occurs-over}
 use Rattle.splits.specs.Shared.{Sharing, ShareParts, ShareMade, Shared, Twice, TwiceParts, TwiceMade, Renew, RenewParts, RenewMade, JoinedLaid, first-value, second-value, half, twice}
-use Rattle.splits.proofs.Opening.{numbers}
-use Rattle.splits.proofs.Tailing.{s-word, r-word, s-small, r-small}
-use Rattle.splits.proofs.Making.{Below, below-next, below-put, makes-before, makes-dead, makes-names, makes-large, due-elsewhere}
+use Rattle.tails.proofs.Opening.{numbers}
+use Rattle.tails.proofs.Tailing.{s-word, r-word, s-small, r-small}
+use Rattle.tails.proofs.Making.{Below, below-next, below-put, makes-before, makes-dead, makes-names, makes-large, due-elsewhere}
 use Rattle.splits.proofs.Values.{u-there, t-there}
 
 module _ {arities l : List ℕ} {from : ℕ} {rest : Rest} {sides : Sides} {joined : Joined} {x y to lent next scratch : ℕ} {l₀ : List ℕ} {p : Parent} {s r : ℕ}

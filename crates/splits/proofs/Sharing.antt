@@ -12,8 +12,8 @@ use Rattle.terms.specs.Term.{Term, words}
 use Rattle.terms.specs.Formed.{row, sides}
 use Rattle.search.specs.State.{State, live, pend, size-equations, state-size}
 use Rattle.search.specs.Children.{bound-state}
-use Rattle.rows.specs.declared.bind.Rest.{Rest}
-use Rattle.rows.specs.declared.bind.Made.{Made}
+use Rattle.rows.specs.declared.parts.Rest.{Rest}
+use Rattle.rows.specs.declared.parts.Made.{Made}
 use Rattle.rows.specs.declared.header.Header.{Header}
 use Rattle.rows.specs.Bind.{FinishParts, pending-piece, pile-piece, bound-piece}
 use Rattle.rows.specs.Header.{header-of}
@@ -21,12 +21,12 @@ use Rattle.rows.specs.Finished.{Finished, bound-header}
 use Rattle.rows.specs.First.{header-in, HeaderParts, rest-after, header-in-words, holds-rest}
 use Rattle.rows.specs.States.{pending-words}
 use Rattle.rows.specs.Row.{Rested, Makes, header-for}
-use Rattle.rows.specs.Child.{ahead, finish-makes}
-use Rattle.splits.specs.declared.sides.Sides.{Sides}
-use Rattle.splits.specs.Gathered.{joining-piece, TailParts}
-use Rattle.splits.specs.Opened.{Parent, Opened}
+use Rattle.binding.specs.Child.{ahead, finish-makes}
+use Rattle.choices.specs.declared.sides.Sides.{Sides}
+use Rattle.choices.specs.Gathered.{joining-piece, TailParts}
+use Rattle.choices.specs.Opened.{Parent, Opened}
 use Rattle.splits.specs.Shared.{Sharing, Again}
-use Rattle.splits.proofs.Opening.{numbers, s-noted, r-noted, left-parts, right-parts, left-is, right-is}
+use Rattle.tails.proofs.Opening.{numbers, s-noted, r-noted, left-parts, right-parts, left-is, right-is}
 use Rattle.splits.proofs.Entering.{opened-up}
 
 -- ---- U, then T

@@ -20,21 +20,21 @@ use Rattle.terms.specs.Formed.{Equation}
 use Rattle.terms.specs.Answers.{Named}
 use Rattle.search.specs.State.{State, live, state-size}
 use Rattle.search.specs.Children.{bound-state, kept, others}
-use Rattle.rows.specs.declared.bind.Rest.{Rest}
-use Rattle.rows.specs.declared.bind.Made.{Made}
-use Rattle.rows.specs.declared.bind.Made.the-variants.{Large, Live}
+use Rattle.rows.specs.declared.parts.Rest.{Rest}
+use Rattle.rows.specs.declared.parts.Made.{Made}
+use Rattle.rows.specs.declared.parts.Made.the-variants.{Large, Live}
 use Rattle.rows.specs.Finished.{made}
 use Rattle.rows.specs.Row.{Makes, becomes}
-use Rattle.rows.specs.Child.{ahead}
+use Rattle.binding.specs.Child.{ahead}
 use Rattle.turns.specs.Picking.{joining-by}
-use Rattle.splits.specs.declared.sides.Sides.{Sides}
-use Rattle.splits.specs.Opened.{Parent, Opened, Elsewhere, elsewhere-next, own-right, to-left}
-use Rattle.splits.specs.Bound.{Bound, BoundParts, BoundMade, bound-child}
+use Rattle.choices.specs.declared.sides.Sides.{Sides}
+use Rattle.choices.specs.Opened.{Parent, Opened, Elsewhere, elsewhere-next, own-right, to-left}
+use Rattle.tails.specs.Bound.{Bound, BoundParts, BoundMade, bound-child}
 use Rattle.splits.specs.Kept.{fourth}
 use Rattle.splits.specs.Occurring.{bound-size}
 use Rattle.splits.specs.Shared.{Again, AgainParts, AgainMade, Twice, first-value, second-value, half, twice, sixth}
-use Rattle.splits.proofs.Opening.{numbers}
-use Rattle.splits.proofs.Making.{Below, makes-before, makes-large, due-target, due-elsewhere}
+use Rattle.tails.proofs.Opening.{numbers}
+use Rattle.tails.proofs.Making.{Below, makes-before, makes-large, due-target, due-elsewhere}
 
 -- ---- terms stay formed
 

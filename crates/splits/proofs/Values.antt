@@ -8,15 +8,15 @@ use lib.Seq.{getD-set-same, getD-set-other}
 use Rattle.room.specs.Room.{seg, put, length-put, seg-more, seg-put-same}
 use Rattle.room.specs.Parts.{ReplaceParts, earlier, later, seg-put, seg-set}
 use Rattle.room.specs.Replaced.{replaced}
-use Rattle.room.specs.Fitting.{fitting, told}
-use Rattle.room.specs.declared.Copied.{Copied}
+use Rattle.replace.specs.Fitting.{fitting, told}
+use Rattle.replace.specs.declared.Copied.{Copied}
 use Rattle.terms.specs.Bounds.{edition-one, edition-one-proper}
 use Rattle.terms.specs.Term.{Term, unknown, words, over}
 use Rattle.rows.specs.Flat.{replaced-words}
 use Rattle.rows.specs.Members.{member-words, words-over}
 use Rattle.rows.specs.Wrote.{Wrote, wrote-replaced, done-fits, done-length, done-room}
 use Rattle.splits.specs.declared.different.Joined.{Joined}
-use Rattle.splits.specs.Opened.{Parent, to-left, to-right}
+use Rattle.choices.specs.Opened.{Parent, to-left, to-right}
 use Rattle.splits.specs.Shared.{Sharing, ShareParts, Shared, first-value, second-value}
 
 module _ (lent scratch : ℕ) where

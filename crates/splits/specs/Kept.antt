@@ -9,10 +9,10 @@ use lib.ListN.{length}
 use Rattle.terms.specs.Term.{Term, kernel, over}
 use Rattle.terms.specs.Shape.{is-unknown, number}
 use Rattle.terms.specs.Answers.{Named}
-use Rattle.rows.specs.declared.bind.Rest.{Rest}
-use Rattle.rows.specs.Child.{Piled}
-use Rattle.splits.specs.declared.sides.Sides.{Sides}
-use Rattle.splits.specs.Opened.{Parent, Opened, Elsewhere, to-left, to-right}
+use Rattle.rows.specs.declared.parts.Rest.{Rest}
+use Rattle.binding.specs.Child.{Piled}
+use Rattle.choices.specs.declared.sides.Sides.{Sides}
+use Rattle.choices.specs.Opened.{Parent, Opened, Elsewhere, to-left, to-right}
 
 unfoldable pub tails-piece : (room : List ℕ) → ℕ → Sides → List ℕ
 tails-piece r from sides = seg r (from + 8 + sides .s) (sides .right - sides .s) ++ seg r (from + 8 + sides .r) (sides .end - sides .r)

@@ -1,12 +1,3 @@
-pub mod Places
-pub mod Digits
-pub mod Gathered
-pub mod Standing
-pub mod Opened
-pub mod Bound
-pub mod Value
-pub mod Due
 pub mod Kept
 pub mod Occurring
 pub mod Shared
-pub mod Open

@@ -12,19 +12,19 @@ use Rattle.terms.specs.Term.{Term, unknown, words, subst, over}
 use Rattle.terms.specs.Formed.{Formed}
 use Rattle.search.specs.State.{State, live, state-size}
 use Rattle.search.specs.Children.{bound-state}
-use Rattle.rows.specs.declared.bind.Rest.{Rest}
-use Rattle.rows.specs.declared.bind.Made.{Made}
+use Rattle.rows.specs.declared.parts.Rest.{Rest}
+use Rattle.rows.specs.declared.parts.Made.{Made}
 use Rattle.rows.specs.Members.{member-words}
 use Rattle.rows.specs.Row.{Fresh, Makes}
-use Rattle.rows.specs.Child.{Stands, ahead}
-use Rattle.room.specs.Fitting.{told}
-use Rattle.room.specs.declared.Copied.{Copied}
-use Rattle.room.specs.declared.Copied.the-variants.{Done}
-use Rattle.splits.specs.declared.sides.Sides.{Sides}
+use Rattle.binding.specs.Child.{Stands, ahead}
+use Rattle.replace.specs.Fitting.{told}
+use Rattle.replace.specs.declared.Copied.{Copied}
+use Rattle.replace.specs.declared.Copied.the-variants.{Done}
+use Rattle.choices.specs.declared.sides.Sides.{Sides}
 use Rattle.splits.specs.declared.different.Joined.{Joined}
-use Rattle.splits.specs.Opened.{Parent, Opened, Elsewhere, to-left, to-right, news}
-use Rattle.splits.specs.Due.{Due}
-use Rattle.splits.specs.Bound.{Target}
+use Rattle.choices.specs.Opened.{Parent, Opened, Elsewhere, to-left, to-right, news}
+use Rattle.tails.specs.Due.{Due}
+use Rattle.tails.specs.Bound.{Target}
 use Rattle.splits.specs.Kept.{fourth}
 
 -- ---- U and T

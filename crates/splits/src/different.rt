@@ -6,18 +6,18 @@ ghost use Rattle.rows.specs.Flat.{holds};
 ghost use Rattle.splits.specs.Kept.{EntryParts};
 ghost use Rattle.splits.specs.Shared.{JoinedLaid, ShareParts, ShareMade, AgainParts, AgainMade, TwiceParts, TwiceMade, RenewParts, RenewMade};
 ghost use Rattle.search.specs.declared.steps.Tails.the-variants.{Different};
-ghost use Rattle.splits.specs.Due.{ChildParts, ChildMade};
-use crate::bound::bound;
-use crate::sides::Sides;
-use crate::tails::tail_members;
-use room::Copied;
-use rows::bind::Made;
-use rows::bind::Rest;
-use rows::bind::finish;
+ghost use Rattle.tails.specs.Due.{ChildParts, ChildMade};
+use binding::bind::finish;
+use choices::sides::Sides;
+use replace::Copied;
 use rows::first::read_header;
 use rows::first::rest_of;
 use rows::header::HEADER;
+use rows::parts::Made;
+use rows::parts::Rest;
 use rows::walk::is_in;
+use tails::bound::bound;
+use tails::tails::tail_members;
 use terms::bounds::FIRST_UNKNOWN;
 use terms::bounds::PATH_UNKNOWNS;
 
@@ -101,7 +101,7 @@ fn share(
     let word = FIRST_UNKNOWN + next as u16;
     room[first + joined.u] = word;
     room[second + joined.t] = word;
-    room::replace(
+    replace::replace(
         room,
         second,
         joined.t + 1,

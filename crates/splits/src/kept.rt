@@ -2,16 +2,16 @@
 ghost use mathlib.Core.Path.{_≡_};
 ghost use Rattle.search.specs.declared.steps.Tails.the-variants.{Neither, Same};
 ghost use Rattle.rows.specs.Wrote.{Wrote};
-ghost use Rattle.splits.specs.Due.{ChildParts, ChildMade};
+ghost use Rattle.tails.specs.Due.{ChildParts, ChildMade};
 ghost use Rattle.splits.specs.Kept.{tails-piece, TailsParts, EntryParts, EntryLaid};
-use crate::equations::equations;
-use crate::sides::Sides;
-use crate::tails::tail_members;
-use room::Copied;
-use rows::bind::Made;
-use rows::bind::Rest;
+use binding::keep::keep;
+use choices::equations::equations;
+use choices::sides::Sides;
+use replace::Copied;
 use rows::header::HEADER;
-use rows::keep::keep;
+use rows::parts::Made;
+use rows::parts::Rest;
+use tails::tails::tail_members;
 
 // The equation of the two tails.
 fn tails_equation(room: &mut [u16], from: usize, sides: Sides, to: usize, capacity: usize) -> Copied

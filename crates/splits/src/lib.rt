@@ -1,12 +1,11 @@
-// How the children of a split are made, one after the other: its members' places, the picks of a child's number, and the child's row.
+// How a child of a split is made from its picks.
+//
+//     kept       neither tail is an unknown, or both are the same one
+//     different  both are, and they differ: two bindings, one after the other
+//     split      by the kind of the tails
+//
+// In specs/, `Kept` and `Shared` say what is laid out on the way, `Occurring` when a tail would be bound inside itself.
 
-pub mod bound;
 pub mod different;
-pub mod equations;
 pub mod kept;
-pub mod members;
-pub mod picks;
-pub mod sides;
 pub mod split;
-pub mod tail;
-pub mod tails;

@@ -1,15 +1,15 @@
 // A child of a split, by the kind of its two tails.
 ghost use mathlib.Core.Path.{_≡_};
-ghost use Rattle.splits.specs.Due.{ChildParts, ChildMade};
+ghost use Rattle.tails.specs.Due.{ChildParts, ChildMade};
 use crate::different::different;
 use crate::kept::neither;
 use crate::kept::same;
-use crate::sides::Sides;
-use crate::tail::left;
-use crate::tail::right;
-use rows::bind::Made;
-use rows::bind::Rest;
+use choices::sides::Sides;
+use rows::parts::Made;
+use rows::parts::Rest;
 use search::steps::Tails;
+use tails::tail::left;
+use tails::tail::right;
 
 // Makes the child whose picks stand in scratch, in the row at `to`.
 pub fn split(

@@ -5,18 +5,18 @@ use mathlib.Core.List.{List}
 use lib.ListN.{length, take}
 use Rattle.terms.specs.Bounds.{edition-one}
 use Rattle.terms.specs.declared.refusal.Refusal.{Refusal}
-use Rattle.term_reader.specs.Reading.{Reading, read, refused}
-use Rattle.term_reader.specs.Bytes.{met, meets}
-use Rattle.term_reader.specs.Numbers.{of-numeral}
-use Rattle.term_reader.specs.Items.{Coming, due, done, of-next, count-of-next}
+use Rattle.numerals.specs.Reading.{Reading, read, refused}
+use Rattle.numerals.specs.Bytes.{met, meets}
+use Rattle.numerals.specs.Numbers.{of-numeral}
+use Rattle.items.specs.Items.{Coming, due, done, of-next, count-of-next}
 use Rattle.term_reader.specs.Terms.{term, of-got, count-of-got}
-use Rattle.term_reader.specs.declared.bytes.Met.{Met}
-use Rattle.term_reader.specs.declared.bytes.Met.the-variants as met-variants
-use Rattle.term_reader.specs.declared.number.Numeral.{Numeral}
-use Rattle.term_reader.specs.declared.number.Numeral.the-variants.{Value, Unfit}
-use Rattle.term_reader.specs.declared.item.Item.{Item}
-use Rattle.term_reader.specs.declared.item.Next.{Next}
-use Rattle.term_reader.specs.declared.item.Next.the-variants as next-variants
+use Rattle.numerals.specs.declared.bytes.Met.{Met}
+use Rattle.numerals.specs.declared.bytes.Met.the-variants as met-variants
+use Rattle.numerals.specs.declared.number.Numeral.{Numeral}
+use Rattle.numerals.specs.declared.number.Numeral.the-variants.{Value, Unfit}
+use Rattle.items.specs.declared.item.Item.{Item}
+use Rattle.items.specs.declared.item.Next.{Next}
+use Rattle.items.specs.declared.item.Next.the-variants as next-variants
 use Rattle.term_reader.specs.declared.term.Got.{Got}
 use Rattle.term_reader.specs.declared.term.Got.the-variants as got-variants
 

@@ -13,13 +13,13 @@ use Rattle.terms.specs.Lists.{All, none, both, cases}
 use Rattle.terms.specs.Refusal.{number as table-number}
 use Rattle.terms.specs.declared.refusal.Cause.{Cause}
 use Rattle.terms.specs.declared.refusal.Cause.the-variants.{Byte, Number, Limit, Undeclared, Arguments, Nesting}
-use Rattle.term_reader.specs.Reading.{Reading, read, fault, and-then}
-use Rattle.term_reader.specs.Bytes.{byte, met, meets, in-text}
-use Rattle.term_reader.specs.Numbers.{digit, digits, number, between}
-use Rattle.term_reader.specs.Items.{Coming, due, done, begins, symbol, name, due-member, due-tail, close-empty, an-unknown, arguments, a-functor, a-set, beginning, after, after-member, after-tail, after-argument}
+use Rattle.numerals.specs.Reading.{Reading, read, fault, and-then}
+use Rattle.numerals.specs.Bytes.{byte, met, meets, in-text}
+use Rattle.numerals.specs.Numbers.{digit, digits, number, between}
+use Rattle.items.specs.Items.{Coming, due, done, begins, symbol, name, due-member, due-tail, close-empty, an-unknown, arguments, a-functor, a-set, beginning, after, after-member, after-tail, after-argument}
 use Rattle.term_reader.specs.Terms.{follow, term, list, term-step, list-step}
-use Rattle.term_reader.specs.declared.item.Item.{Item}
-use Rattle.term_reader.specs.declared.item.Item.the-variants.{Member, Tail, Argument}
+use Rattle.items.specs.declared.item.Item.{Item}
+use Rattle.items.specs.declared.item.Item.the-variants.{Member, Tail, Argument}
 
 -- a reading of the text s that goes on at `low` or later with what P says, or is refused
 pub data Placed (s : List ℕ) (low : ℕ) {A : Type 0} (P : A → Type 0) : Reading A → Type 0 where

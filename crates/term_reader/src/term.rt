@@ -4,12 +4,12 @@ ghost use mathlib.Core.Path.{_≡_};
 ghost use Prim.Native.Nat.{ℕ, _+_, _-_, _*_, _≤_, _<_};
 ghost use lib.ListN.{length, take};
 ghost use Rattle.terms.specs.Bounds.{edition-one};
-ghost use Rattle.term_reader.specs.Items.{Room};
+ghost use Rattle.items.specs.Items.{Room};
 ghost use Rattle.term_reader.specs.Terms.{term, list, of-got, count-of-got};
-use crate::beginning::begin;
-use crate::item::Item;
-use crate::item::Next;
-use crate::item::pass;
+use beginnings::beginning::begin;
+use items::item::Item;
+use items::item::Next;
+use items::item::pass;
 use terms::refusal::Refusal;
 
 // Where reading goes on and how many words there are; or a refusal.

@@ -1,3 +1,0 @@
-pub mod Checking
-pub mod Limits
-pub mod Walking

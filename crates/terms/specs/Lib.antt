@@ -9,12 +9,6 @@ pub mod Kind
 pub mod Flat
 pub mod Reading
 pub mod Walk
-pub mod Check
-pub mod Pushed
 pub mod Listing
-pub mod Checked
-pub mod Lent
-pub mod Short
 pub mod Members
-pub mod Occurrence
 pub mod Substitution

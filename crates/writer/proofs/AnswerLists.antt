@@ -13,10 +13,10 @@ use Rattle.search.specs.declared.ends.End.{End}
 use Rattle.search.specs.declared.ends.Listed.the-variants.{As, Nowhere}
 use Rattle.terms.specs.Answers.{Named}
 use Rattle.terms.specs.Bounds.{edition-one, edition-one-proper}
-use Rattle.terms.specs.Check.{refused, above, check-answers}
-use Rattle.terms.specs.Checked.{never-fine}
+use Rattle.checks.specs.Check.{refused, above, check-answers}
+use Rattle.checks.specs.Checked.{never-fine}
 use Rattle.terms.specs.Kind.{Worded}
-use Rattle.terms.specs.Lent.{table-worded, check-answers-answered}
+use Rattle.checks.specs.Lent.{table-worded, check-answers-answered}
 use Rattle.terms.specs.Listing.{answers-of}
 use Rattle.terms.specs.declared.refusal.Cause.the-variants.{Limit}
 use Rattle.terms.specs.declared.refusal.Refusal.{Refusal}
@@ -25,7 +25,7 @@ use Rattle.terms.specs.declared.refusal.Checked.the-variants.{Fine}
 use Rattle.terms.specs.declared.refusal.Checked.the-variants as checked
 use Rattle.text.specs.AnswerText.{list-text}
 use Rattle.pen.specs.Depths.{First}
-use Rattle.writer.specs.Listing.{list-lines}
+use Rattle.lines.specs.Listing.{list-lines}
 use Rattle.pen.specs.Pen.{most}
 use Rattle.pen.specs.Walk.{Walk, ended}
 use Rattle.writer.specs.Written.{nested, tested, held, measured, too-deep-in-list, check-list, text-of-list, list-written, Held, untouched, written}

@@ -10,9 +10,9 @@ use lib.ListN.{length, drop, take}
 use lib.Seq.{sets, sets-eq}
 use borrow.Author.Tests.{lt-ltb, le-ltb, ltb-true, ltb-false}
 use Rattle.terms.specs.Bounds.{Bounds, edition-one, edition-one-proper}
-use Rattle.terms.specs.Check.{check-question}
+use Rattle.checks.specs.Check.{check-question}
 use Rattle.terms.specs.Kind.{Worded}
-use Rattle.terms.specs.Lent.{Asked, check-question-asked}
+use Rattle.checks.specs.Lent.{Asked, check-question-asked}
 use Rattle.terms.specs.Lists.{cases}
 use Rattle.terms.specs.Formed.{Question, sides, row}
 use Rattle.terms.specs.Reading.{question-of}
@@ -23,7 +23,7 @@ use Rattle.terms.specs.declared.refusal.Checked.the-variants.{Fine}
 use Rattle.terms.specs.declared.refusal.Checked.the-variants as checked
 use Rattle.text.specs.Text.{question-text}
 use Rattle.pen.specs.Depths.{First, all-within, first-at}
-use Rattle.writer.specs.Lines.{question-lines}
+use Rattle.lines.specs.Lines.{question-lines}
 use Rattle.pen.specs.Pen.{most, counted, Wrote}
 use Rattle.pen.specs.Walk.{Walk, ended, too-deep, Passed, was-ended, was-too-deep}
 use Rattle.writer.specs.Written.{fitted, nested, tested, held, too-deep-in, question-written, answered, measured}

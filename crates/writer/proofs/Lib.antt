@@ -1,4 +1,3 @@
-pub mod Lined
 pub mod Questions
 pub mod Listings
 pub mod Answering

@@ -18,8 +18,8 @@ use Rattle.text.specs.AnswerText.{binding-lines, answer-lines, list-text}
 use Rattle.text.specs.Keys.{unknown-key, value-key, bindings-key}
 use Rattle.text.specs.Text.{text, line, decimal}
 use Rattle.pen.specs.Depths.{depths, row-depths}
-use Rattle.writer.specs.Lines.{repeat, term-line}
-use Rattle.writer.specs.Listing.{number-then, binding-at, answer-at, list-header, list-lines, binding-depths, list-depths}
+use Rattle.lines.specs.Lines.{repeat, term-line}
+use Rattle.lines.specs.Listing.{number-then, binding-at, answer-at, list-header, list-lines, binding-depths, list-depths}
 use Rattle.pen.specs.Walk.{then, Walk, ended, prepend}
 use Rattle.writer.specs.Written.{too-deep-in-list}
 use Rattle.pen.specs.Guarded.{guard-none}

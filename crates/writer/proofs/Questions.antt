@@ -17,7 +17,7 @@ use Rattle.terms.specs.Formed.{Formed, Equation, sides, row, Question}
 use Rattle.text.specs.Keys.{left-key, right-key}
 use Rattle.text.specs.Text.{text, line, equation-lines, question-text, decimal, numbers}
 use Rattle.pen.specs.Depths.{depths, row-depths, First, all-within, first-at, found, first-above}
-use Rattle.writer.specs.Lines.{term-line, repeat, equation-at, header, question-lines}
+use Rattle.lines.specs.Lines.{term-line, repeat, equation-at, header, question-lines}
 use Rattle.pen.specs.Opened.{closing, closed}
 use Rattle.pen.specs.Walk.{then, Walk, ended, too-deep, prepend, onward, walk, term-at}
 use Rattle.writer.specs.Written.{too-deep-in}

@@ -10,7 +10,7 @@ use Rattle.search.specs.declared.ends.Listed.{Listed}
 use Rattle.search.specs.declared.ends.Listed.the-variants.{As, Nowhere}
 use Rattle.terms.specs.Answers.{Named}
 use Rattle.terms.specs.Bounds.{Bounds}
-use Rattle.terms.specs.Check.{refused, above, check-question, check-answers}
+use Rattle.checks.specs.Check.{refused, above, check-question, check-answers}
 use Rattle.terms.specs.Formed.{Question, sides}
 use Rattle.terms.specs.Listing.{answers-of}
 use Rattle.terms.specs.Reading.{question-of}
@@ -22,7 +22,7 @@ use Rattle.terms.specs.declared.refusal.Checked.the-variants as checked
 use Rattle.text.specs.AnswerText.{list-text}
 use Rattle.text.specs.Text.{question-text}
 use Rattle.pen.specs.Depths.{First, all-within, first-at, first-above, row-depths}
-use Rattle.writer.specs.Listing.{list-depths}
+use Rattle.lines.specs.Listing.{list-depths}
 use Rattle.pen.specs.Pen.{counted}
 use Rattle.pen.specs.Walk.{Walk, ended, too-deep, Passed}
 use Rattle.pen.specs.declared.put.Passage.{Passage}

@@ -3,8 +3,8 @@ use mathlib.Core.Path.{sym, _∙_}
 use native.Mathlib.Omega.{arith}
 use lib.ListN.{length}
 use lib.Seq.{length-take-le}
-use Rattle.solver.specs.Result.{needed}
-use Rattle.solver.proofs.Standing.{needed-small}
+use Rattle.visits.specs.Loans.{needed}
+use Rattle.search_loop.proofs.Standing.{needed-small}
 use Rattle.solver.proofs.Telling.{refused-so, ended-so, faulty, small-room, fine-run, asking}
 use borrow.Author.Needs.{needs}
 use Rattle.solver.proofs.run_within.Statement.{statement}

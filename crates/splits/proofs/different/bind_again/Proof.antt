@@ -1,5 +1,5 @@
 use Rattle.splits.proofs.Sharing.{rest-parts, again-parts, again-made}
-use Rattle.splits.proofs.Making.{finished-elsewhere}
+use Rattle.tails.proofs.Making.{finished-elsewhere}
 use Rattle.room.specs.Room.{seg}
 use borrow.Author.Needs.{needs}
 use Rattle.splits.proofs.different.bind_again.Statement.{statement}

@@ -1,4 +1,4 @@
-use Rattle.splits.proofs.Making.{not-large, not-dead, not-names}
+use Rattle.tails.proofs.Making.{not-large, not-dead, not-names}
 use Rattle.splits.proofs.Twice.{first-parts, second-parts, twice-made, twice-kept, twice-large}
 use borrow.Author.Needs.{needs}
 use Rattle.splits.proofs.different.bind_twice.Statement.{statement}

@@ -1,6 +1,6 @@
-use Rattle.splits.proofs.Opening.{numbers}
+use Rattle.tails.proofs.Opening.{numbers}
 use Rattle.splits.proofs.Renewing.{joined-elsewhere, joined-within, different-dead, different-names, different-parts, different-made}
-use Rattle.splits.specs.Opened.{elsewhere-next}
+use Rattle.choices.specs.Opened.{elsewhere-next}
 use Rattle.room.specs.Room.{seg}
 use native.Mathlib.Omega.{arith}
 use mathlib.Core.Path.{refl}

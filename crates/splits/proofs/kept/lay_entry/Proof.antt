@@ -1,4 +1,4 @@
-use Rattle.splits.proofs.Opening.{numbers}
+use Rattle.tails.proofs.Opening.{numbers}
 use Rattle.splits.proofs.Entering.{t-parts, k-within, u-parts, j-within, long, no-entry, one-entry}
 use native.Mathlib.Omega.{arith}
 use mathlib.Core.Path.{refl}

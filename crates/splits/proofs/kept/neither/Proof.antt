@@ -1,7 +1,7 @@
-use Rattle.splits.proofs.Opening.{numbers}
+use Rattle.tails.proofs.Opening.{numbers}
 use Rattle.splits.proofs.Keeping.{s-place, s-apart, plain-parts, plain, written-within, tails-parts, last-written, news-full, last-full, neither-parts, neither-made}
-use Rattle.splits.proofs.Making.{child-made}
-use Rattle.room.specs.Fitting.{further}
+use Rattle.tails.proofs.Making.{child-made}
+use Rattle.replace.specs.Fitting.{further}
 use Rattle.rows.specs.Wrote.{done-fits, done-length}
 use native.Mathlib.Omega.{arith}
 use mathlib.Core.Path.{refl}

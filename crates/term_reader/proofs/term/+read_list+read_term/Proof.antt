@@ -19,8 +19,8 @@ use Rattle.term_reader.proofs.term.+read_list+read_term.Lts-read_list a
 use Rattle.term_reader.proofs.term.read_term.Reads as read-term
 use Rattle.term_reader.proofs.term.read_term.Kinds as read-term-kinds
 use Rattle.term_reader.proofs.term.+read_list+read_term.Lts-read_term as read-term-lts
-use Rattle.term_reader.proofs.beginning.begin.Reads as begin-reads
-use Rattle.term_reader.proofs.item.pass.Reads as pass-reads
+use Rattle.beginnings.proofs.beginning.begin.Reads as begin-reads
+use Rattle.items.proofs.item.pass.Reads as pass-reads
 use Rattle.term_reader.proofs.term.+read_list+read_term.{statement}
 use Rattle.term_reader.proofs.term.+read_list+read_term.Tie.{close}
 

@@ -1,0 +1,5 @@
+pub mod Absent
+pub mod Binding
+pub mod Finishing
+pub mod Keeping
+pub mod Passing

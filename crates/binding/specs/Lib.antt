@@ -1,0 +1,3 @@
+pub mod At
+pub mod Child
+pub mod Keep

@@ -1,0 +1,5 @@
+pub mod Check
+pub mod Checked
+pub mod Lent
+pub mod Pushed
+pub mod Short

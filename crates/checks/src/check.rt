@@ -1,0 +1,232 @@
+// The check of lent words: a question, a row of ground terms, a list of answers. Each entry takes any input, and answers what `Check` of specs/ says:
+// counts and arities first, then the number of words, then the first word that can't stand where it is, or the place where words stop or are left over.
+ghost use mathlib.Core.Path.{_≡_};
+ghost use Prim.Native.Nat.{_≤_};
+ghost use lib.ListN.{length, drop};
+ghost use Rattle.terms.specs.Bounds.{edition-one};
+ghost use Rattle.checks.specs.Check.{follow, checked, arities-above, check-terms, check-question, check-row, check-answers};
+ghost use Rattle.checks.specs.Short.{stopped};
+use terms::bounds::AFTER_FUNCTORS;
+use terms::bounds::ARITY;
+use terms::bounds::EMPTY;
+use terms::bounds::EQUATIONS;
+use terms::bounds::FIRST_FUNCTOR;
+use terms::bounds::FIRST_UNKNOWN;
+use terms::bounds::FUNCTORS;
+use terms::bounds::MEMBER;
+use terms::bounds::PATH_UNKNOWNS;
+use terms::bounds::SYMBOLS;
+use terms::bounds::UNKNOWNS;
+use terms::refusal::Cause;
+use terms::refusal::Checked;
+use terms::refusal::Refusal;
+
+// What follows a word where a term is due: so many terms; or why it can't stand there.
+pub enum Follow {
+    Terms(u8),
+    Cannot(Cause),
+}
+
+// With so many unknowns allowed.
+fn what_follows(arities: &[u8], unknowns: usize, word: u16) -> Follow
+    ensures { λ r. ⌜ r ≡ follow edition-one (now (arities .entry)) unknowns word ⌝ }
+{
+    if word == EMPTY {
+        return Follow::Terms(0);
+    }
+    if word == MEMBER {
+        return Follow::Terms(2);
+    }
+    if word < FIRST_UNKNOWN {
+        return Follow::Cannot(Cause::WordsMeaningless);
+    }
+    if word < FIRST_FUNCTOR {
+        let i = (word - FIRST_UNKNOWN) as usize;
+        if i < unknowns {
+            return Follow::Terms(0);
+        }
+        return Follow::Cannot(Cause::WordsUndeclared);
+    }
+    if word < AFTER_FUNCTORS {
+        let k = (word - FIRST_FUNCTOR) as usize;
+        if k < arities.len() {
+            return Follow::Terms(arities[k]);
+        }
+        return Follow::Cannot(Cause::WordsUndeclared);
+    }
+    Follow::Cannot(Cause::WordsMeaningless)
+}
+
+// More terms are due than words are left from this place on: the first word that can't stand, or the words stop. No counter can overflow.
+fn check_short(arities: &[u8], unknowns: usize, words: &[u16], from: usize) -> Checked
+    requires { ⌜ from ≤ length (now words) ⌝ }
+    ensures { λ r. ⌜ r ≡ stopped edition-one (now (arities .entry)) unknowns (drop from (now (words .entry))) from ⌝ }
+{
+    let mut place = from;
+    while place < words.len() {
+        match what_follows(arities, unknowns, words[place]) {
+            Follow::Terms(_) => {
+                place += 1;
+            }
+            Follow::Cannot(cause) => {
+                return Checked::Refused(Refusal { cause, place });
+            }
+        }
+    }
+    Checked::Refused(Refusal {
+        cause: Cause::WordsStop,
+        place,
+    })
+}
+
+// The words with so many answers and terms due. An answer is its count of bindings, a binding its unknown's number and then one term.
+fn check_words(
+    arities: &[u8],
+    unknowns: usize,
+    words: &[u16],
+    answers: usize,
+    terms: usize,
+) -> Checked
+    ensures { λ r. ⌜ r ≡ checked edition-one (now (arities .entry)) unknowns (now (words .entry)) 0 answers 0 terms ⌝ }
+{
+    let mut place: usize = 0;
+    let mut answers_due = answers;
+    let mut bindings_due: usize = 0;
+    let mut terms_due = terms;
+    while place < words.len() {
+        let word = words[place];
+        if 0 < terms_due {
+            if words.len() - place < terms_due {
+                return check_short(arities, unknowns, words, place);
+            }
+            match what_follows(arities, unknowns, word) {
+                Follow::Terms(more) => {
+                    terms_due = terms_due - 1 + more as usize;
+                    place += 1;
+                }
+                Follow::Cannot(cause) => {
+                    return Checked::Refused(Refusal { cause, place });
+                }
+            }
+        } else if 0 < bindings_due {
+            if unknowns <= word as usize {
+                return Checked::Refused(Refusal {
+                    cause: Cause::WordsUndeclared,
+                    place,
+                });
+            }
+            bindings_due -= 1;
+            terms_due = 1;
+            place += 1;
+        } else if 0 < answers_due {
+            answers_due -= 1;
+            bindings_due = word as usize;
+            place += 1;
+        } else {
+            return Checked::Refused(Refusal {
+                cause: Cause::WordsLeft,
+                place,
+            });
+        }
+    }
+    if 0 < terms_due {
+        return Checked::Refused(Refusal {
+            cause: Cause::WordsStop,
+            place,
+        });
+    }
+    if 0 < bindings_due {
+        return Checked::Refused(Refusal {
+            cause: Cause::WordsStop,
+            place,
+        });
+    }
+    if 0 < answers_due {
+        return Checked::Refused(Refusal {
+            cause: Cause::WordsStop,
+            place,
+        });
+    }
+    Checked::Fine
+}
+
+// Is a count of functors or an arity above its limit?
+fn above_limits(arities: &[u8]) -> bool
+    ensures { λ r. ⌜ r ≡ arities-above edition-one (now (arities .entry)) ⌝ }
+{
+    if FUNCTORS < arities.len() {
+        return true;
+    }
+    let mut k: usize = 0;
+    while k < arities.len() {
+        if ARITY < arities[k] {
+            return true;
+        }
+        k += 1;
+    }
+    false
+}
+
+// The words of so many terms, in no more words than one call may lend.
+fn check_terms(arities: &[u8], unknowns: usize, terms: usize, words: &[u16]) -> Checked
+    ensures { λ r. ⌜ r ≡ check-terms edition-one (now (arities .entry)) unknowns terms (now (words .entry)) ⌝ }
+{
+    if SYMBOLS < words.len() {
+        return Checked::Refused(Refusal {
+            cause: Cause::Limit,
+            place: SYMBOLS,
+        });
+    }
+    check_words(arities, unknowns, words, 0, terms)
+}
+
+// A question: two terms for each equation, with nothing after them.
+pub fn check_question(unknowns: usize, arities: &[u8], equations: usize, words: &[u16]) -> Checked
+    ensures { λ r. ⌜ r ≡ check-question edition-one unknowns (now (arities .entry)) equations (now (words .entry)) ⌝ }
+{
+    if UNKNOWNS < unknowns {
+        return Checked::Refused(Refusal {
+            cause: Cause::Limit,
+            place: 0,
+        });
+    }
+    if above_limits(arities) {
+        return Checked::Refused(Refusal {
+            cause: Cause::Limit,
+            place: 0,
+        });
+    }
+    if EQUATIONS < equations {
+        return Checked::Refused(Refusal {
+            cause: Cause::Limit,
+            place: 0,
+        });
+    }
+    check_terms(arities, unknowns, 2 * equations, words)
+}
+
+// A row of so many ground terms.
+pub fn check_row(arities: &[u8], terms: usize, words: &[u16]) -> Checked
+    ensures { λ r. ⌜ r ≡ check-row edition-one (now (arities .entry)) terms (now (words .entry)) ⌝ }
+{
+    if above_limits(arities) {
+        return Checked::Refused(Refusal {
+            cause: Cause::Limit,
+            place: 0,
+        });
+    }
+    check_terms(arities, 0, terms, words)
+}
+
+// A list of so many answers.
+pub fn check_answers(arities: &[u8], answers: usize, words: &[u16]) -> Checked
+    ensures { λ r. ⌜ r ≡ check-answers edition-one (now (arities .entry)) answers (now (words .entry)) ⌝ }
+{
+    if above_limits(arities) {
+        return Checked::Refused(Refusal {
+            cause: Cause::Limit,
+            place: 0,
+        });
+    }
+    check_words(arities, PATH_UNKNOWNS, words, answers, 0)
+}

@@ -1,0 +1,6 @@
+pub mod Counting
+pub mod Equating
+pub mod Frame
+pub mod Meeting
+pub mod Noting
+pub mod Opens

@@ -1,0 +1,4 @@
+pub mod Arguing
+pub mod Comparing
+pub mod Matching
+pub mod Meeting

@@ -1,0 +1,3 @@
+// The comparison of the terms at two places, which recurses into members and arguments. `Classes` of `places` says what it tells.
+
+pub mod compare;

@@ -1,0 +1,3 @@
+pub mod Opening
+pub mod Passing
+pub mod Words

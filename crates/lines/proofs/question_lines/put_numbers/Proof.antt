@@ -1,0 +1,41 @@
+use borrow.Author.Needs.{needs}
+use mathlib.Core.Path.{ap}
+use Rattle.text.specs.Text.{decimal}
+use Rattle.lines.proofs.Lined.{numbers-none, numbers-some}
+use Rattle.pen.specs.Writing.{wrote-nothing, wrote-then, wrote-as}
+use borrow.Author.Needs.{needs}
+use Rattle.lines.proofs.question_lines.put_numbers.Statement.{statement}
+use Rattle.lines.proofs.question_lines.put_numbers.Tie as tie
+
+returns : tie.Need-returns
+returns c = wrote-as (numbers-none _ (c .if1 .taken)) (wrote-nothing (search needs) (search needs))
+
+shared-slice-read-wide : tie.Need-shared-slice-read-wide
+shared-slice-read-wide c = search needs
+
+wide-requires : tie.Need-wide-requires
+wide-requires c κs = search needs
+
+put-number-requires : tie.Need-put-number-requires
+put-number-requires c κs = search needs
+
+put-further-requires : tie.Need-put-further-requires
+put-further-requires c κs = search needs
+
+same-length : tie.Need-same-length
+same-length c = search needs
+
+returns-2 : tie.Need-returns-2
+returns-2 c = wrote-as (numbers-some _ (c .before .before .before .before .before .before .before .before .before .before .if1 .left)) (wrote-then (wrote-as (ap decimal (c .before .before .before .before .before .before .before .wide .ensures)) (c .before .before .before .before .before .before .put-number .ensures)) (c .before .before .put-further .ensures))
+
+pub put-numbers-spec : {M : Type 1} → statement M
+put-numbers-spec =
+    tie.close
+    (tie.spec
+    returns
+    shared-slice-read-wide
+    wide-requires
+    put-number-requires
+    put-further-requires
+    same-length
+    returns-2)

@@ -1,0 +1,65 @@
+use borrow.Author.Needs.{needs}
+use mathlib.Core.Path.{_∙_}
+use Rattle.terms.specs.Bounds.{edition-one}
+use Rattle.lines.specs.Lines.{repeat, equation-at}
+use Rattle.lines.proofs.Lined.{repeat-some, repeat-none}
+use Rattle.pen.specs.Passing.{Rest, rest-all, rest-as, rest-none, rest-then, rest-stop}
+use Rattle.lines.proofs.question_lines.write_equations.Statement.{statement}
+use Rattle.lines.proofs.question_lines.write_equations.Tie as tie
+
+abbrev Inv-loop : tie.InvT-loop
+Inv-loop arities words equations text₀ at due₀ from₀ next₀ text due from next = Rest (repeat (equation-at edition-one arities words) equations 0) text₀ at (repeat (equation-at edition-one arities words) due from) text next
+
+abbrev μ-loop : tie.MeasureT-loop
+μ-loop arities words equations text₀ at due₀ from₀ next₀ text due from next = due
+
+loop-holds : tie.Need-loop-holds Inv-loop μ-loop
+loop-holds c = rest-all _ _ _ (search needs) (search needs)
+
+write-equation-requires : tie.Need-write-equation-requires Inv-loop μ-loop
+write-equation-requires c κs = search needs
+
+enum-known-p : tie.Need-enum-known-p Inv-loop μ-loop
+enum-known-p c = search needs
+
+sub-due : tie.Need-sub-due Inv-loop μ-loop
+sub-due c = search needs
+
+loop-less : tie.Need-loop-less Inv-loop μ-loop
+loop-less c = search needs
+
+loop-again : tie.Need-loop-again Inv-loop μ-loop
+loop-again c = rest-then _ (rest-as (repeat-some _ _ _ (c .before .before .before .before .before .before .before .loop-test .taken)) (c .before .before .before .before .before .before .before .before .loop .inv)) (c .before .before .before .before .before .write-equation .ensures) (c .before .p .given .1)
+
+enum-known-p-2 : tie.Need-enum-known-p-2 Inv-loop μ-loop
+enum-known-p-2 c = search needs
+
+same-length : tie.Need-same-length Inv-loop μ-loop
+same-length c = c .before .before .before .before .before .write-equation .kept .1 .1 .1 .0 ∙ c .before .before .before .before .before .before .before .before .loop .inv .kept
+
+returns : tie.Need-returns Inv-loop μ-loop
+returns c = rest-stop _ (rest-as (repeat-some _ _ _ (c .before .before .before .before .before .before .before .loop-test .taken)) (c .before .before .before .before .before .before .before .before .loop .inv)) (c .before .before .before .before .before .write-equation .ensures) (c .before .p2 .given .1)
+
+same-length-2 : tie.Need-same-length-2 Inv-loop μ-loop
+same-length-2 c = c .before .loop .inv .kept
+
+returns-2 : tie.Need-returns-2 Inv-loop μ-loop
+returns-2 c = rest-none (rest-as (repeat-none _ _ _ (c .loop-test .left)) (c .before .loop .inv))
+
+pub write-equations-spec : {M : Type 1} → statement M
+write-equations-spec =
+    tie.close
+    (tie.spec
+    Inv-loop
+    μ-loop
+    loop-holds
+    write-equation-requires
+    enum-known-p
+    sub-due
+    loop-less
+    loop-again
+    enum-known-p-2
+    same-length
+    returns
+    same-length-2
+    returns-2)

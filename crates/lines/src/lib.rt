@@ -1,0 +1,5 @@
+// The lines of questions and of answer lists. In specs/, `Lines` and `Listing` say what is written.
+
+pub mod line;
+pub mod list_lines;
+pub mod question_lines;

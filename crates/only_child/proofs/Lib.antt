@@ -1,0 +1,4 @@
+pub mod Joining
+pub mod Only
+pub mod Reading
+pub mod Stepping

@@ -1,0 +1,4 @@
+pub mod Continuing
+pub mod Opening
+pub mod Splitting
+pub mod Starting

@@ -1,0 +1,54 @@
+-- `children::pass::pick_from`: the laws of a first child in `Passing`.
+use native.Mathlib.Omega.{arith}
+use Rattle.pick_loop.proofs.Passing.{first-due, first-asked, first-node, first-ended, first-told, not-dead}
+use borrow.Author.Needs.{needs}
+use Rattle.pick_loop.proofs.pass.pick_from.Statement.{statement}
+use Rattle.pick_loop.proofs.pass.pick_from.Tie as tie
+
+returns : tie.Need-returns
+returns c = λ p P. first-due P (omega (arith, c .if1 .taken))
+
+add-to : tie.Need-add-to
+add-to c = search needs
+
+add-to-2 : tie.Need-add-to-2
+add-to-2 c = search needs
+
+split-requires : tie.Need-split-requires
+split-requires c κs = first-asked (c .before .before .before .before .pre .here) (omega (arith, c .before .if1 .left))
+
+enum-told : tie.Need-enum-told
+enum-told c = search needs
+
+pick-after-requires : tie.Need-pick-after-requires
+pick-after-requires c κs = record { p = _; here = first-ended (c .before .before .before .before .before .before .before .before .before .before .pre .here) (omega (arith, c .before .before .before .before .before .before .before .if1 .left)) (c .before .before .before .before .before .split .ensures) (c .before .enum-told .given .1) }
+
+same-length : tie.Need-same-length
+same-length c = search needs
+
+returns-2 : tie.Need-returns-2
+returns-2 c = λ p P.
+    let h = c .before .before .before .before .before .before .before .before .before .before .if1 .left in
+    let M = c .before .before .before .before .before .before .before .before .split .ensures in
+    first-told P (omega arith) M (c .before .before .pick-after .ensures p (first-ended P (omega arith) M (c .before .before .before .before .enum-told .given .1)))
+
+same-length-2 : tie.Need-same-length-2
+same-length-2 c = search needs
+
+returns-3 : tie.Need-returns-3
+returns-3 c = λ p P. first-node P (omega (arith, c .before .before .before .before .before .if1 .left)) (c .before .before .before .split .ensures) (not-dead _ (c .match .keys2))
+
+pub pick-from-spec : {M : Type 1} → statement M
+pick-from-spec =
+    tie.close
+    (tie.spec
+    returns
+    add-to
+    add-to-2
+    split-requires
+    enum-told
+    pick-after-requires
+    same-length
+    returns-2
+    same-length-2
+    returns-3)

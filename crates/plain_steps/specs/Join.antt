@@ -1,0 +1,113 @@
+-- The members of all entries of an unknown in the words of a pile: of each entry's term, the words before its kernel.
+use Prim.Native.Nat.{ℕ, zero, suc, _+_, _-_, _<_, _≤_}
+use mathlib.Core.Path.{_≡_, refl, ap, sym, _∙_}
+use mathlib.Core.List.{List, [], _∷_, _++_, flatMap}
+use mathlib.Core.Bool.{Bool, true, false}
+use native.Mathlib.Omega.{arith}
+use native.Mathlib.Nat.{zero-add}
+use lib.Dec.{eqb}
+use lib.ListN.{length, take, drop, length-append, length-take, length-drop}
+use lib.Seq.{drop-at, take-append-le}
+use borrow.Author.Tests.{eqb-true, eqb-false, ne-eqb, eq-eqb}
+use Rattle.room.specs.Replaced.{by-test}
+use Rattle.terms.specs.Bounds.{Bounds, Proper}
+use Rattle.terms.specs.Kind.{takes, takes-member, Worded}
+use Rattle.terms.specs.Lists.{All, none, both}
+use Rattle.terms.specs.Term.{words, size, members, kernel}
+use Rattle.terms.specs.Formed.{Formed}
+use Rattle.terms.specs.Answers.{Named}
+use Rattle.terms.specs.Flat.{length-words}
+use Rattle.search.specs.Children.{entries, joined}
+use Rattle.rows.specs.Ended.{ended, ended-from, ended-within, term-end, term-end-words}
+use Rattle.rows.specs.Stripped.{stripped, kernel-at, kernel-at-words, kernel-place}
+use Rattle.rows.specs.Pile.{kept, pile-words}
+use Rattle.rows.specs.Members.{member-words, members-append, take-members, length-members, words-members}
+
+-- at most so many entries are read
+unfoldable pub gathered : Bounds → List ℕ → ℕ → ℕ → List ℕ → List ℕ
+gathered b arities x zero ws = []
+gathered b arities x (suc most) [] = []
+gathered b arities x (suc most) (w ∷ ws) =
+    kept (eqb w x) (take (kernel-at b arities ws) ws) ++ gathered b arities x most (drop (term-end b arities ws) ws)
+
+pub gathered-entry : (b : Bounds) (arities : List ℕ) (x most w : ℕ) (ws : List ℕ) → 0 < most → gathered b arities x most (w ∷ ws)
+    ≡ kept (eqb w x) (take (kernel-at b arities ws) ws) ++ gathered b arities x (most - 1) (drop (term-end b arities ws) ws)
+unfolding gathered
+gathered-entry b arities x zero w ws h = absurd (omega arith)
+gathered-entry b arities x (suc most) w ws h = let e : suc most - 1 ≡ most = omega arith in rw e
+
+pub gathered-none : (b : Bounds) (arities : List ℕ) (x most : ℕ) → gathered b arities x most [] ≡ []
+unfolding gathered
+gathered-none b arities x zero = refl
+gathered-none b arities x (suc most) = refl
+
+length-kept : (c : Bool) (k : ℕ) (ws : List ℕ) → length (kept c (take k ws)) ≤ k
+unfolding kept
+length-kept true k ws = omega (arith, length-take k ws)
+length-kept false k ws = omega arith
+
+-- the kernel stands before the end of its term
+module _ {b : Bounds} (proper : Proper b) (arities : List ℕ) where
+  pub stripped-ended : (ws : List ℕ) (due place : ℕ) → stripped b arities ws due place ≤ ended b arities ws (suc due) place
+  unfolding stripped ended
+  stripped-ended [] due place = omega arith
+  stripped-ended (w ∷ ws) zero place =
+      by-test (eqb w 1)
+      (λ e.
+      let o : w ≡ 1 = eqb-true w 1 e in
+      let k : 0 + takes b arities w ≡ 2 = zero-add (takes b arities w) ∙ rw o (takes-member proper arities) in
+      rw (e, k) (stripped-ended ws 1 (place + 1)))
+      (λ e. rw e (omega (arith, ended-from b arities ws (0 + takes b arities w) (place + 1))))
+  stripped-ended (w ∷ ws) (suc due) place =
+      let e : suc due + takes b arities w ≡ suc (due + takes b arities w) = omega arith in
+      rw e (stripped-ended ws (due + takes b arities w) (place + 1))
+
+  -- no more words than the pile has
+  pub length-gathered : (x most : ℕ) (ws : List ℕ) → length (gathered b arities x most ws) ≤ length ws
+  unfolding gathered
+  length-gathered x zero ws = omega arith
+  length-gathered x (suc most) [] = omega arith
+  length-gathered x (suc most) (w ∷ ws) =
+      let k : ℕ = kernel-at b arities ws in
+      let e : ℕ = term-end b arities ws in
+      omega (
+        arith,
+        length-append (kept (eqb w x) (take k ws)) (gathered b arities x most (drop e ws)),
+        length-kept (eqb w x) k ws,
+        length-gathered x most (drop e ws),
+        length-drop e ws,
+        stripped-ended ws 0 0,
+        ended-within b arities ws 1 0,
+      )
+
+module _ {b : Bounds} {arities : List ℕ} {k : ℕ} (worded : Worded b arities k) (x : ℕ) where
+  same-name : (i : ℕ) → eqb (b .first-unknown + i) (b .first-unknown + x) ≡ eqb i x
+  same-name i =
+      by-test (eqb i x)
+      (λ t. rw t (eq-eqb _ _ (ap (λ (j : ℕ). b .first-unknown + j) (eqb-true i x t))))
+      (λ f. rw f (ne-eqb (b .first-unknown + i) (b .first-unknown + x) (λ e. eqb-false i x f (omega arith))))
+
+  joined-entry : (n : Named) (ns : List Named) → member-words b (joined x (n ∷ ns)) ≡ kept (eqb (n .name) x) (member-words b (members (n .value))) ++ member-words b (joined x ns)
+  unfolding joined entries kept flatMap
+  joined-entry n ns =
+      by-test (eqb (n .name) x)
+      (λ e. rw e (members-append b (members (n .value)) (joined x ns)))
+      (λ e. rw e)
+
+  pub gathered-pile : (most : ℕ) {ns : List Named} → All (λ n. Formed arities k (n .value)) ns → length (pile-words b ns) ≤ most
+      → gathered b arities (b .first-unknown + x) most (pile-words b ns) ≡ member-words b (joined x ns)
+  unfolding gathered pile-words joined entries member-words flatMap
+  gathered-pile zero none h = refl
+  gathered-pile (suc most) none h = refl
+  gathered-pile zero (both f fs) h = absurd (omega arith)
+  gathered-pile (suc most) (both {x = n} {xs = ns} f fs) h =
+      let v : List ℕ = words b (n .value) in
+      let l : length v ≡ size (n .value) = length-words b (n .value) in
+      let e : term-end b arities (v ++ pile-words b ns) ≡ size (n .value) = term-end-words worded f (pile-words b ns) in
+      let q : kernel-at b arities (v ++ pile-words b ns) ≡ kernel-place (n .value) = kernel-at-words worded f (pile-words b ns) in
+      let p : take (kernel-place (n .value)) (v ++ pile-words b ns) ≡ member-words b (members (n .value)) =
+      take-append-le (kernel-place (n .value)) v (pile-words b ns)
+      (omega (arith, length-members b (n .value), ap length (words-members b (n .value)), length-append (member-words b (members (n .value))) (words b (kernel (n .value)))))
+      ∙ take-members b (n .value) in
+      rw (e, q, p, same-name (n .name), drop-at v (pile-words b ns) (size (n .value)) l, gathered-pile most fs (omega (arith, length-append v (pile-words b ns))))
+      (sym (joined-entry n ns))

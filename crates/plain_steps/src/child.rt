@@ -1,0 +1,64 @@
+// The only child of a state whose first equation leaves no choice.
+ghost use mathlib.Core.Path.{_≡_};
+ghost use Rattle.plain_steps.specs.Only.{StepAt, Taken};
+use crate::single::decompose;
+use crate::single::postpone;
+use binding::bind::finish;
+use binding::keep::keep;
+use rows::first::Subject;
+use rows::header::HEADER;
+use rows::parts::Made;
+use rows::parts::Rest;
+use rows::walk::terms_after;
+use search::steps::Step;
+
+// Takes the step that the first equation of the row at `from` calls for; the equation's words end at the place `end` of the row's body, and its right
+// side begins at `right`. A split has its own way, and is not taken here.
+pub fn take_step(
+    arities: &[u8],
+    room: &mut [u16],
+    from: usize,
+    to: usize,
+    scratch: usize,
+    size: usize,
+    right: usize,
+    end: usize,
+    next: usize,
+    rest: Rest,
+    subject: Subject,
+    step: Step,
+) -> Made
+    requires { ⌜ StepAt (now arities) (now room) from to scratch size right end next rest subject step ⌝ }
+    ensures { λ r. ⌜ Taken (now (arities .entry)) (now (room .entry)) from to scratch size right end next rest subject step r (now (room .exit)) ⌝ }
+{
+    match step {
+        Step::Drop => keep(room, rest, from, 0, to, 0, size, next),
+        Step::Bind(_) => {
+            let by = subject.by;
+            let m = subject.m;
+            finish(arities, room, rest, subject.x, by, m, to, 0, size, next)
+        }
+        Step::Postpone(_) => postpone(room, rest, subject, scratch, to, size, next),
+        Step::Decompose => {
+            let body = from + HEADER;
+            let k = terms_after(arities, room[body]);
+            let left = body + 1;
+            let other = body + right + 1;
+            decompose(
+                arities,
+                room,
+                rest,
+                k,
+                left,
+                right - 1,
+                other,
+                end - right - 1,
+                to,
+                size,
+                next,
+            )
+        }
+        Step::Split(_) => Made::Dead,
+        Step::Dead => Made::Dead,
+    }
+}

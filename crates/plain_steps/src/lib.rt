@@ -1,0 +1,11 @@
+// The steps that leave no choice: each writes the one child of a row.
+//
+//     single  an equation dropped, postponed or taken apart
+//     join    the entries of the pile's first unknown joined
+//     child   the step that the first equation calls for
+//
+// In specs/, `Single`, `Singles`, `Decomposed` and `Only` say what each writes, `Join`, `Joining` and `JoinMade` the same of a join.
+
+pub mod child;
+pub mod join;
+pub mod single;

@@ -1,0 +1,29 @@
+// What a row's code passes on: what became of a node, the parts of a row's body, and those of its pile.
+
+// What became of a due node.
+pub enum Made {
+    Dead,
+    // it needs an unknown too many
+    Names,
+    // it is larger than lent
+    Large,
+    // it is written
+    Live,
+}
+
+// The rest of a row's body: where it begins, the words of its pending equations, of its pile and of its bindings, and the number of these.
+pub struct Rest {
+    pub at: usize,
+    pub pending: usize,
+    pub pile: usize,
+    pub bound: usize,
+    pub bindings: usize,
+}
+
+// Which entries of a pile.
+pub enum Part {
+    // those of an unknown
+    Entries,
+    // the others
+    Others,
+}

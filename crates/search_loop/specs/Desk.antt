@@ -1,0 +1,59 @@
+-- The split that stands open in scratch, seen from a path: it is the split of one of the path's rows, or none stands open. What is asked of a row before
+-- its children are looked for.
+use Prim.Native.Nat.{ℕ, _+_, _*_, _≤_}
+use mathlib.Core.Path.{_≡_, refl}
+use mathlib.Core.List.{List, _∷_}
+use native.Mathlib.Omega.{arith}
+use lib.ListN.{length}
+use Rattle.room.specs.Room.{seg}
+use Rattle.search.specs.State.{State}
+use Rattle.turns.specs.Going.{Open}
+use Rattle.only_child.specs.Next.{Ready}
+use Rattle.pick_loop.specs.Shown.{Shown, shown-kept}
+use Rattle.search_loop.specs.Path.{Rows, a-row}
+
+-- a state's split stands open, with the picks of the child before the one that is next
+pub record Stands (l : List ℕ) (lent scratch : ℕ) (st : State) (child : ℕ) : Type 0 where
+  pub last : ℕ
+  pub after : child ≡ last + 1
+  pub shown : Shown l lent scratch st last
+
+-- the level whose split stands open in scratch, counted from 1; 0 where none does
+pub data Desk (l : List ℕ) (lent scratch : ℕ) : List Open → ℕ → Type 0 where
+  nothing-open : {path : List Open} → Desk l lent scratch path 0
+  open-here : {o : Open} {path : List Open} → Stands l lent scratch (o .state) (o .child) → Desk l lent scratch (o ∷ path) (length path + 1)
+  open-above : {o : Open} {path : List Open} {k : ℕ} → Desk l lent scratch path k → Desk l lent scratch (o ∷ path) k
+
+-- the children of a row of this level may be looked for; where the level is the one that is shown, the row's split stands open
+pub record Looking (arities l : List ℕ) (at level number size scratch most shown : ℕ) (st : State) : Type 0 where
+  pub level-small : level ≤ 1024
+  pub ready : Ready arities l at number size scratch most st
+  pub stands : shown ≡ level + 1 → Stands l size scratch st number
+
+-- ---- whose split it is
+
+module _ {l : List ℕ} {lent scratch : ℕ} where
+  pub desk-level : {path : List Open} {k : ℕ} → Desk l lent scratch path k → k ≤ length path
+  desk-level nothing-open = omega arith
+  desk-level (open-here S) = omega arith
+  desk-level (open-above D) = omega (arith, desk-level D)
+
+  -- the deepest row's
+  pub desk-here : {o : Open} {path : List Open} {k : ℕ} → Desk l lent scratch (o ∷ path) k → k ≡ length path + 1 → Stands l lent scratch (o .state) (o .child)
+  desk-here nothing-open e = absurd (omega arith)
+  desk-here (open-here S) e = S
+  desk-here (open-above D) e = absurd (omega (arith, desk-level D))
+
+  -- or that of a row above it
+  pub desk-above : {o : Open} {path : List Open} {k : ℕ} → Desk l lent scratch (o ∷ path) k → (k ≡ length path + 1 → ⊥) → Desk l lent scratch path k
+  desk-above nothing-open n = nothing-open
+  desk-above (open-here S) n = absurd (n refl)
+  desk-above (open-above D) n = D
+
+-- ---- it stands open while the rows of scratch are as they were
+
+module _ {l r : List ℕ} {lent scratch : ℕ} (kept : seg r scratch (3 * (lent + 8)) ≡ seg l scratch (3 * (lent + 8))) where
+  pub desk-kept : {arities m : List ℕ} {visited k : ℕ} {path : List Open} → Rows arities lent visited m path → Desk l lent scratch path k → Desk r lent scratch path k
+  desk-kept Rs nothing-open = nothing-open
+  desk-kept (a-row R Rs) (open-here S) = open-here (record { last = S .last; after = S .after; shown = shown-kept kept (R .small) (S .shown) })
+  desk-kept (a-row R Rs) (open-above D) = open-above (desk-kept Rs D)

@@ -1,0 +1,3 @@
+pub mod Loans
+pub mod Number
+pub mod Visiting
