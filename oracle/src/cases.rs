@@ -10,9 +10,15 @@ use std::io::{BufRead, Write};
 /// What cases are put to: the oracle, or whatever else has these entries.
 pub trait Entries {
     fn read_question(&mut self, text: &[u8]) -> Result<Question, Refusal>;
+    /// Reads into buffers of so many arities and words.
+    fn read_into(&mut self, text: &[u8], arities: usize, words: usize)
+        -> Result<Question, Refusal>;
     fn check_limits(&mut self, loan: &Loan) -> Result<(), Refusal>;
     /// A run of a good question within the limits.
     fn run(&mut self, question: &Question, loan: &Loan) -> Result<Outcome, Refusal>;
+    /// A run of any words, in room of so many words.
+    fn run_in(&mut self, question: &Question, loan: &Loan, room: usize)
+        -> Result<Outcome, Refusal>;
     fn write_question(&mut self, question: &Question, capacity: usize) -> Result<Vec<u8>, Refusal>;
     fn write_answers(&mut self, list: &AnswerList, capacity: usize) -> Result<Vec<u8>, Refusal>;
     fn equal(&mut self, arities: &[u8], row: &[u16]) -> Result<bool, Refusal>;
@@ -26,12 +32,30 @@ impl Entries for Oracle {
         reader::read(text)
     }
 
+    fn read_into(
+        &mut self,
+        text: &[u8],
+        arities: usize,
+        words: usize,
+    ) -> Result<Question, Refusal> {
+        reader::read_into(text, arities, words)
+    }
+
     fn check_limits(&mut self, loan: &Loan) -> Result<(), Refusal> {
         search::check_limits(loan)
     }
 
     fn run(&mut self, question: &Question, loan: &Loan) -> Result<Outcome, Refusal> {
         Ok(search::search(question, loan))
+    }
+
+    fn run_in(
+        &mut self,
+        question: &Question,
+        loan: &Loan,
+        room: usize,
+    ) -> Result<Outcome, Refusal> {
+        search::run(question, loan, room)
     }
 
     fn write_question(&mut self, question: &Question, capacity: usize) -> Result<Vec<u8>, Refusal> {
@@ -79,10 +103,11 @@ pub fn result(entries: &mut impl Entries, case: &str) -> Result<String, String> 
     let fields: Vec<&str> = case.split('\t').collect();
     let due = match fields[0] {
         "text" => 2,
-        "run" | "writeq" => 6,
-        "writel" => 7,
         "equal" => 3,
-        "values" => 6,
+        "read" => 4,
+        "run" | "writeq" | "values" => 6,
+        "writel" => 7,
+        "runw" => 10,
         kind => return Err(format!("no kind of case: {kind:?}")),
     };
     if fields.len() != due {
@@ -94,7 +119,17 @@ pub fn result(entries: &mut impl Entries, case: &str) -> Result<String, String> 
     }
     let given = match fields[0] {
         "text" => entries.read_question(&bytes(fields[1])?).map(ok_question),
-        "run" => run_case(entries, &fields)?,
+        "read" => entries
+            .read_into(&bytes(fields[1])?, number(fields[2])?, number(fields[3])?)
+            .map(ok_question),
+        "run" => run_case(entries, &fields)?.map(ended),
+        "runw" => entries
+            .run_in(
+                &question(&fields)?,
+                &loan(&fields[5..])?,
+                number(fields[9])?,
+            )
+            .map(ended),
         "writeq" => entries
             .write_question(&question(&fields)?, number(fields[5])?)
             .map(ok_bytes),
@@ -129,31 +164,38 @@ fn ok_question(q: Question) -> String {
 fn run_case(
     entries: &mut impl Entries,
     fields: &[&str],
-) -> Result<Result<String, Refusal>, String> {
-    let loan = Loan {
-        steps: number(fields[1])?,
-        depth: number(fields[2])?,
-        size: number(fields[3])?,
-        space: number(fields[4])?,
-    };
+) -> Result<Result<Outcome, Refusal>, String> {
+    let loan = loan(&fields[1..])?;
     let text = bytes(fields[5])?;
     Ok(entries
         .check_limits(&loan)
         .and_then(|()| entries.read_question(&text))
-        .and_then(|question| entries.run(&question, &loan))
-        .map(|outcome| {
-            let words = match outcome.words.as_slice() {
-                [] => "-".to_string(),
-                words => joined(words),
-            };
-            format!(
-                "{} {} {} {words}",
-                outcome.end, outcome.visited, outcome.answers
-            )
-        }))
+        .and_then(|question| entries.run(&question, &loan)))
 }
 
-/// The fields U A E W that a `writeq` and a `values` begin with.
+/// END VISITED ANSWERS W
+fn ended(outcome: Outcome) -> String {
+    let words = match outcome.words.as_slice() {
+        [] => "-".to_string(),
+        words => joined(words),
+    };
+    format!(
+        "{} {} {} {words}",
+        outcome.end, outcome.visited, outcome.answers
+    )
+}
+
+/// The fields STEPS DEPTH SIZE SPACE.
+fn loan(fields: &[&str]) -> Result<Loan, String> {
+    Ok(Loan {
+        steps: number(fields[0])?,
+        depth: number(fields[1])?,
+        size: number(fields[2])?,
+        space: number(fields[3])?,
+    })
+}
+
+/// The fields U A E W that a `writeq`, a `values` and a `runw` begin with.
 fn question(fields: &[&str]) -> Result<Question, String> {
     Ok(Question {
         unknowns: number(fields[1])?,

@@ -1,9 +1,9 @@
-//! Document 01's specimens, the program `solve`, and the entries' refusals that no case of the driver reaches.
+//! Document 01's specimens, and the program `solve`.
 
-use oracle::search::{room_needed, run, search, Loan};
+use oracle::search::{search, Loan};
 use oracle::solve::solve;
-use oracle::terms::{Question, Refusal};
-use oracle::text::reader::{read, read_into};
+use oracle::terms::Question;
+use oracle::text::reader::read;
 
 /// f0, f1, f2 are a, b, c; f3 is g with one argument.
 fn asked(unknowns: u32, equations: &[(&str, &str)]) -> Question {
@@ -116,48 +116,4 @@ fn the_program_reads_no_more_than_it_must() {
     let text = format!("{start}{}", "1".repeat(40_000));
     let refused = format!("refused=3\nplace={}\n", start.len());
     assert_eq!(solve(text.as_bytes()), refused.as_bytes());
-}
-
-#[test]
-fn the_reader_tests_the_arities_buffer_first() {
-    let text = b"edition=1\nunknowns=1\narities=0,1\nequations=1\nleft=x0\nright={f0|x0}\n";
-    assert!(read_into(text, 2, 4).is_ok());
-    let seven = |place| Err(Refusal { number: 7, place });
-    assert_eq!(read_into(text, 1, 0), seven(2));
-    assert_eq!(read_into(text, 2, 3), seven(4));
-    assert_eq!(
-        read_into(b"x", 0, 0),
-        Err(Refusal {
-            number: 1,
-            place: 0
-        })
-    );
-}
-
-#[test]
-fn a_run_tests_limits_then_question_then_room() {
-    let mut question = asked(1, &[("x0", "{f0|x0}")]);
-    let loan = Loan {
-        steps: 9,
-        depth: 2,
-        size: 4,
-        space: 5,
-    };
-    assert_eq!(room_needed(&loan), 120);
-    assert!(run(&question, &loan, 120).is_ok());
-    let refused = |number, place| Err(Refusal { number, place });
-    assert_eq!(run(&question, &loan, 119), refused(7, 120));
-    question.words.push(0);
-    assert_eq!(run(&question, &loan, 0), refused(8, 4));
-    assert_eq!(
-        run(
-            &question,
-            &Loan {
-                depth: 1025,
-                ..loan
-            },
-            0
-        ),
-        refused(3, 0)
-    );
 }

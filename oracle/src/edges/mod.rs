@@ -1,8 +1,20 @@
 //! Cases written by hand from document 01, with the results that it asks for: every refusal and its places,
 //! the ends of a run, and the points where the paper was read with care.
+//!
+//! Each refusal of each entry has at least one, and `tests/corpus.rs` counts them:
+//!
+//! | entry | kinds of case | refusals |
+//! |---|---|---|
+//! | `read_question` | `text`, `read` | 1 to 6; 7 for the arities' buffer, 7 for the words' |
+//! | `write_question` | `writeq` | 3, 8, 6, 7 |
+//! | `write_answers` | `writel` | 3, 8, 6, 7 |
+//! | `equal` | `equal` | 3, 8 |
+//! | `solves` | `values` | 3, 8 |
+//! | `run` | `run`, `runw` | 3 for the limits, 3 and 8 for the question, 7 |
 
 mod ends;
 mod ground;
+mod lending;
 mod reading;
 mod running;
 mod writing;
@@ -21,6 +33,7 @@ pub fn edges() -> Vec<Edge> {
     running::edges(&mut edges);
     writing::edges(&mut edges);
     ground::edges(&mut edges);
+    lending::edges(&mut edges);
     edges
 }
 

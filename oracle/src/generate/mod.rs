@@ -1,6 +1,7 @@
 //! Random cases of the test driver by seed: good ones, damaged ones, and ones around every limit.
 
 mod large;
+mod lending;
 mod limits;
 mod runs;
 mod tables;
@@ -29,9 +30,11 @@ fn case(random: &mut Random) -> String {
         0..=5 => limits::many_symbols(random),
         6..=39 => limits::deep_nesting(random),
         40..=99 => limits::counts(random),
-        100..=169 => texts::good(random),
-        170..=299 => texts::damaged(random),
-        300..=589 => runs::case(random),
+        100..=149 => texts::good(random),
+        150..=249 => texts::damaged(random),
+        250..=299 => lending::read(random),
+        300..=519 => runs::case(random),
+        520..=589 => lending::run_words(random),
         590..=619 => large::case(random),
         620..=719 => tables::write_question(random),
         720..=819 => tables::write_answers(random),

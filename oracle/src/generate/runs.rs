@@ -62,7 +62,7 @@ pub fn least_loan(question: &Question, steps: u64) -> Option<Loan> {
 
 /// A question and the least loan that its search is done with, if that is within `steps`. Most are tried
 /// again until the search has an answer and some length.
-fn asked(random: &mut Random, steps: u64) -> (Question, Option<Loan>) {
+pub fn asked(random: &mut Random, steps: u64) -> (Question, Option<Loan>) {
     let mut tries = if random.percent(70) { 8 } else { 0 };
     loop {
         let question = if random.percent(65) {
@@ -91,9 +91,18 @@ pub fn case(random: &mut Random) -> String {
     lent(random, &question, least, steps)
 }
 
-/// A run of the question with a loan about the least that it is done with; if there is none, with at most `steps` and any other loan.
+/// A run of the question's text, some of them damaged.
 pub fn lent(random: &mut Random, question: &Question, least: Option<Loan>, steps: u64) -> String {
+    let loan = loan_about(random, least, steps);
     let mut text = text_of(question);
+    if random.percent(5) {
+        damage(random, &mut text);
+    }
+    line(&loan, &text)
+}
+
+/// A loan about the least that a search is done with; if there is none, at most `steps` and anything else. A few are above a limit.
+pub fn loan_about(random: &mut Random, least: Option<Loan>, steps: u64) -> Loan {
     let mut loan = match least {
         Some(loan) => one_short(random, loan),
         None => Loan {
@@ -106,10 +115,7 @@ pub fn lent(random: &mut Random, question: &Question, least: Option<Loan>, steps
     if random.percent(5) {
         above_limit(random, &mut loan);
     }
-    if random.percent(5) {
-        damage(random, &mut text);
-    }
-    line(&loan, &text)
+    loan
 }
 
 /// A loan that suffices exactly, amply, or is too small in one number.

@@ -8,7 +8,7 @@ use crate::terms::*;
 use crate::text::writers;
 
 /// One to three edits of words.
-fn damage(random: &mut Random, words: &mut Vec<u16>) {
+pub fn damage(random: &mut Random, words: &mut Vec<u16>) {
     const LIKELY: [u16; 22] = [
         0, 1, 2, 3, 9, 255, 511, 512, 999, 1000, 1001, 1005, 1255, 1256, 1511, 1512, 1999, 2000,
         2001, 2005, 2256, 65535,
@@ -40,7 +40,7 @@ fn capacity(random: &mut Random, needed: Result<Vec<u8>, Refusal>) -> usize {
     }
 }
 
-fn wild_number(random: &mut Random) -> u64 {
+pub fn wild_number(random: &mut Random) -> u64 {
     *random.pick(&[
         0,
         1,
