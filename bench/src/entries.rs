@@ -14,6 +14,9 @@ const WORD: u16 = 0xa5a5;
 /// A case may lend more answer words than a machine has; no run of a case fills so many.
 const MOST_SPACE: usize = 1 << 22;
 
+/// A `runw` may lend more room than a machine has; none that is granted needs so much.
+const MOST_ROOM: usize = 1 << 20;
+
 /// Keeps the room from run to run, so that each finds what another left there.
 #[derive(Default)]
 pub struct Component {
@@ -37,7 +40,7 @@ fn refused<T>(given: Result<T, Refusal>, number: u8, place: usize) {
 
 impl Component {
     /// A word too many is refused before the room is looked at, and then a room one short; nothing is written.
-    fn refused_runs(&mut self, question: &Question, loan: &Loan, answers: &mut [u16]) {
+    fn refused_runs(&mut self, question: &Question, loan: &Loan) {
         let mut longer = question.clone();
         longer.words.push(0);
         let number = if longer.words.len() > MOST_SYMBOLS {
@@ -45,19 +48,52 @@ impl Component {
         } else {
             8
         };
-        let given = calls::run(&longer, loan, answers, &mut []);
-        refused(given, number, question.words.len());
+        refused(listed(&longer, loan, &mut []), number, question.words.len());
         let needed = room_needed(loan);
         let room = &mut self.room[..needed - 1];
         // The larger rooms are not looked at: it would take longer than the runs.
         let before = room[..room.len().min(MOST_SYMBOLS)].to_vec();
-        refused(calls::run(question, loan, answers, room), 7, needed);
+        refused(listed(question, loan, room), 7, needed);
         assert!(
             room.starts_with(&before),
             "a refused run writes to the room"
         );
-        left_alone(answers, WORD);
     }
+}
+
+/// A run in this room, and the words that it listed.
+fn listed(question: &Question, loan: &Loan, room: &mut [u16]) -> Result<Outcome, Refusal> {
+    let mut words = vec![WORD; loan.space.min(MOST_SPACE)];
+    let given = calls::run(question, loan, &mut words, room);
+    let used = given.as_ref().map_or(0, |ran| ran.used);
+    left_alone(&words[used..], WORD);
+    words.truncate(used);
+    given.map(|ran| Outcome {
+        end: ran.end,
+        visited: ran.visited,
+        answers: ran.answers,
+        words,
+    })
+}
+
+/// Reads into buffers of these lengths, or of twice what any question needs.
+fn read(text: &[u8], arities: usize, words: usize) -> Result<Question, Refusal> {
+    let mut arities = vec![BYTE; arities.min(2 * MOST_FUNCTORS)];
+    let mut words = vec![WORD; words.min(2 * MOST_SYMBOLS)];
+    let given = calls::read_question(text, &mut arities, &mut words);
+    let (functors, used) = given
+        .as_ref()
+        .map_or((0, 0), |read| (read.functors, read.used));
+    left_alone(&arities[functors..], BYTE);
+    left_alone(&words[used..], WORD);
+    arities.truncate(functors);
+    words.truncate(used);
+    given.map(|read| Question {
+        unknowns: read.unknowns as u64,
+        arities,
+        equations: read.equations as u64,
+        words,
+    })
 }
 
 /// A text that is written to a buffer of `capacity` bytes, or of as many as the text of so many words never has.
@@ -76,36 +112,24 @@ fn written(
 
 impl Entries for Component {
     fn read_question(&mut self, text: &[u8]) -> Result<Question, Refusal> {
-        let mut arities = vec![BYTE; MOST_FUNCTORS];
-        let mut words = vec![WORD; MOST_SYMBOLS];
-        let counts = match calls::read_question(text, &mut arities, &mut words) {
-            Ok(counts) => counts,
-            Err(refusal) => {
-                left_alone(&arities, BYTE);
-                left_alone(&words, WORD);
-                return Err(refusal);
-            }
-        };
-        left_alone(&arities[counts.functors..], BYTE);
-        left_alone(&words[counts.used..], WORD);
-        arities.truncate(counts.functors);
-        words.truncate(counts.used);
-        if let Some(short) = counts.functors.checked_sub(1) {
-            let given = calls::read_question(text, &mut [BYTE; MOST_FUNCTORS][..short], &mut []);
-            refused(given, 7, counts.functors);
+        let question = read(text, MOST_FUNCTORS, MOST_SYMBOLS)?;
+        let (functors, used) = (question.arities.len(), question.words.len());
+        if let Some(short) = functors.checked_sub(1) {
+            refused(read(text, short, 0), 7, functors);
         }
-        if let Some(short) = counts.used.checked_sub(1) {
-            let mut fits = vec![BYTE; counts.functors];
-            let given = calls::read_question(text, &mut fits, &mut vec![WORD; short]);
-            refused(given, 7, counts.used);
-            left_alone(&fits, BYTE);
+        if let Some(short) = used.checked_sub(1) {
+            refused(read(text, functors, short), 7, used);
         }
-        Ok(Question {
-            unknowns: counts.unknowns as u64,
-            arities,
-            equations: counts.equations as u64,
-            words,
-        })
+        Ok(question)
+    }
+
+    fn read_into(
+        &mut self,
+        text: &[u8],
+        arities: usize,
+        words: usize,
+    ) -> Result<Question, Refusal> {
+        read(text, arities, words)
     }
 
     /// The limits are tested first: a question without equations and no room show it.
@@ -131,17 +155,29 @@ impl Entries for Component {
         if self.room.len() < needed {
             self.room.resize(needed, WORD);
         }
-        let mut answers = vec![WORD; loan.space.min(MOST_SPACE)];
-        self.refused_runs(question, loan, &mut answers);
-        let given = calls::run(question, loan, &mut answers, &mut self.room[..needed])?;
-        left_alone(&answers[given.used..], WORD);
-        answers.truncate(given.used);
-        Ok(Outcome {
-            end: given.end,
-            visited: given.visited,
-            answers: given.answers,
-            words: answers,
-        })
+        self.refused_runs(question, loan);
+        listed(question, loan, &mut self.room[..needed])
+    }
+
+    fn run_in(
+        &mut self,
+        question: &Question,
+        loan: &Loan,
+        room: usize,
+    ) -> Result<Outcome, Refusal> {
+        let lent = room.min(MOST_ROOM);
+        if self.room.len() < lent {
+            self.room.resize(lent, WORD);
+        }
+        let before = self.room[..lent].to_vec();
+        let given = listed(question, loan, &mut self.room[..lent]);
+        if given.is_err() {
+            assert!(
+                self.room[..lent] == before,
+                "a refused run writes to the room"
+            );
+        }
+        given
     }
 
     fn write_question(&mut self, question: &Question, capacity: usize) -> Result<Vec<u8>, Refusal> {

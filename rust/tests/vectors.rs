@@ -4,8 +4,9 @@ use mensorique::Refusal;
 use std::fs;
 use std::path::Path;
 
-/// No text or list in the files is longer, so a larger buffer behaves the same.
+/// No text or list in the files is longer, and no `runw` that is granted needs more room, so larger ones behave the same.
 const MOST_LENT: usize = 1 << 17;
+const MOST_ROOM: usize = 1 << 20;
 
 fn numbers<N: std::str::FromStr>(field: &str) -> Vec<N>
 where
@@ -26,17 +27,25 @@ fn joined<N: ToString>(numbers: &[N]) -> String {
     numbers.join(",")
 }
 
-/// A question as read, with its arities and words.
-fn read(hex: &str) -> Result<(words::Counts, Vec<u8>, Vec<u16>), Refusal> {
-    let (mut arities, mut words) = (vec![0; 256], vec![0; 4096]);
-    let counts = words::read_question(&bytes(hex), &mut arities, &mut words)?;
-    arities.truncate(counts.functors);
-    words.truncate(counts.words);
-    Ok((counts, arities, words))
+/// A question as read into buffers of these lengths, with its arities and words.
+fn read_into(
+    hex: &str,
+    arities: usize,
+    words: usize,
+) -> Result<(words::Counts, Vec<u8>, Vec<u16>), Refusal> {
+    let mut arities = vec![7; arities.min(MOST_LENT)];
+    let mut words = vec![7; words.min(MOST_LENT)];
+    let given = words::read_question(&bytes(hex), &mut arities, &mut words);
+    let (functors, used) = given.map_or((0, 0), |counts| (counts.functors, counts.words));
+    assert!(arities[functors..].iter().all(|&arity| arity == 7));
+    assert!(words[used..].iter().all(|&word| word == 7));
+    arities.truncate(functors);
+    words.truncate(used);
+    given.map(|counts| (counts, arities, words))
 }
 
-fn text_case(fields: &[&str]) -> Result<String, Refusal> {
-    let (counts, arities, words) = read(fields[1])?;
+fn read_case(hex: &str, arities: usize, words: usize) -> Result<String, Refusal> {
+    let (counts, arities, words) = read_into(hex, arities, words)?;
     let (arities, words) = (joined(&arities), joined(&words));
     Ok(format!(
         "ok {}|{arities}|{}|{words}",
@@ -48,7 +57,6 @@ fn text_case(fields: &[&str]) -> Result<String, Refusal> {
 fn run_case(fields: &[&str]) -> Result<String, Refusal> {
     let lent = |i: usize| fields[i].parse::<usize>().unwrap();
     let (steps, depth, size) = (fields[1].parse().unwrap(), lent(2), lent(3));
-    let mut answers = vec![7; lent(4).min(MOST_LENT)];
     let mut room = vec![7; words::room_words(depth, size)];
     let none = Asked {
         unknowns: 0,
@@ -57,15 +65,30 @@ fn run_case(fields: &[&str]) -> Result<String, Refusal> {
         words: &[],
     };
     words::run(none, steps, depth, size, &mut [], &mut room)?;
-    let (counts, arities, words) = read(fields[5])?;
+    let (counts, arities, words) = read_into(fields[5], 256, 4096)?;
     let asked = Asked {
         unknowns: counts.unknowns,
         arities: &arities,
         equations: counts.equations,
         words: &words,
     };
-    let ran = words::run(asked, steps, depth, size, &mut answers, &mut room)?;
-    assert!(answers[ran.words..].iter().all(|&word| word == 7));
+    listed(asked, steps, depth, size, lent(4), &mut room)
+}
+
+/// A run in this room, and what it listed.
+fn listed(
+    asked: Asked<'_>,
+    steps: u64,
+    depth: usize,
+    size: usize,
+    space: usize,
+    room: &mut [u16],
+) -> Result<String, Refusal> {
+    let mut answers = vec![7; space.min(MOST_LENT)];
+    let given = words::run(asked, steps, depth, size, &mut answers, room);
+    let used = given.map_or(0, |ran| ran.words);
+    assert!(answers[used..].iter().all(|&word| word == 7));
+    let ran = given?;
     let listed = match &answers[..ran.words] {
         [] => "-".to_string(),
         words => joined(words),
@@ -81,8 +104,9 @@ fn written(
     write: impl Fn(&mut [u8]) -> Result<usize, Refusal>,
 ) -> Result<String, Refusal> {
     let mut text = vec![7; capacity.parse::<usize>().unwrap().min(MOST_LENT)];
-    let length = write(&mut text)?;
-    assert!(text[length..].iter().all(|&byte| byte == 7));
+    let given = write(&mut text);
+    assert!(text[given.unwrap_or(0)..].iter().all(|&byte| byte == 7));
+    let length = given?;
     let hex = text[..length].iter().map(|byte| format!("{byte:02x}"));
     Ok(format!("ok {}", hex.collect::<String>()))
 }
@@ -91,7 +115,8 @@ fn result(fields: &[&str]) -> Result<String, Refusal> {
     let said = |yes: bool, words: [&str; 2]| words[usize::from(!yes)].to_string();
     let number = |i: usize| fields[i].parse::<u64>().unwrap();
     match fields[0] {
-        "text" => text_case(fields),
+        "text" => read_case(fields[1], 256, 4096),
+        "read" => read_case(fields[1], number(2) as usize, number(3) as usize),
         "run" => run_case(fields),
         "equal" => words::equal(&numbers(fields[1]), &numbers(fields[2]))
             .map(|yes| said(yes, ["equal", "differ"])),
@@ -112,6 +137,14 @@ fn result(fields: &[&str]) -> Result<String, Refusal> {
             };
             match kind {
                 "writeq" => written(fields[5], |text| words::write_question(asked, text)),
+                "runw" => {
+                    let (depth, size) = (number(6) as usize, number(7) as usize);
+                    let mut room = vec![7; (number(9) as usize).min(MOST_ROOM)];
+                    let space = number(8) as usize;
+                    let given = listed(asked, number(5), depth, size, space, &mut room);
+                    assert!(given.is_ok() || room.iter().all(|&word| word == 7));
+                    given
+                }
                 "values" => {
                     words::solves(asked, &numbers(fields[5])).map(|yes| said(yes, ["yes", "no"]))
                 }
