@@ -1,6 +1,7 @@
-//! Finds the archive `libmensorique_c.a`: in the folder that `MENSORIQUE_LIB_DIR` names, or in the repository's `target/native`.
+//! Finds the archive `libmensorique_c.a`: in the folder that `MENSORIQUE_LIB_DIR` names, or in the repository's `target/native`. Without it the crate can be
+//! checked (`cargo check`) but not linked.
+use std::env;
 use std::path::PathBuf;
-use std::{env, process};
 
 const NAME: &str = "libmensorique_c.a";
 
@@ -13,12 +14,11 @@ fn main() {
     let archive = folder.join(NAME);
     println!("cargo:rerun-if-changed={}", archive.display());
     if !archive.is_file() {
-        eprintln!(
-            "there is no {}: make it by `bin/native-staticlib mensorique_c` at the top of the repository, \
+        println!(
+            "cargo:warning=there is no {}: make it by `bin/native-staticlib mensorique_c` at the top of the repository, \
              or name the folder that holds {NAME} in MENSORIQUE_LIB_DIR",
             archive.display()
         );
-        process::exit(1);
     }
     println!("cargo:rustc-link-search=native={}", folder.display());
     println!("cargo:rustc-link-lib=static=mensorique_c");
