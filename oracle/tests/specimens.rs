@@ -4,6 +4,8 @@ use oracle::search::{search, Loan};
 use oracle::solve::solve;
 use oracle::terms::Question;
 use oracle::text::reader::read;
+use std::fs;
+use std::path::Path;
 
 /// f0, f1, f2 are a, b, c; f3 is g with one argument.
 fn asked(unknowns: u32, equations: &[(&str, &str)]) -> Question {
@@ -94,26 +96,20 @@ fn the_program_prints_the_specimen() {
     assert_eq!(solve(b"edition=2\n"), b"refused=3\nplace=8\n");
 }
 
-/// x1 has 25 brackets and is put inside 180 more: the answer cannot be written, and the writer says where.
+/// The questions on which `tests/solve` runs the program. `6-written`: x1 has 25 brackets and is put inside 180 more, so the answer cannot be written; the
+/// place is the count, x1's line of 1 + 26 words, x0's number, then the words of 200 brackets.
 #[test]
-fn the_program_tells_the_writers_refusal() {
-    let nested = |depth, inside| format!("{}{inside}{}", "f0(".repeat(depth), ")".repeat(depth));
-    let text = format!(
-        "edition=1\nunknowns=3\narities=1\nequations=2\nleft=x1\nright={}\nleft=x0\nright={}\n",
-        nested(25, "x2"),
-        nested(180, "x1")
-    );
-    // The count, x1's line of 1 + 26 words, x0's number, then the words of 200 brackets.
-    let place = 1 + 27 + 1 + 200;
-    let refused = format!("refused=6\nplace={place}\n");
-    assert_eq!(solve(text.as_bytes()), refused.as_bytes());
-}
-
-/// At most 32,768 bytes are read; a fault before that is told as ever.
-#[test]
-fn the_program_reads_no_more_than_it_must() {
-    let start = "edition=1\nunknowns=1\narities=\nequations=1\nleft=x";
-    let text = format!("{start}{}", "1".repeat(40_000));
-    let refused = format!("refused=3\nplace={}\n", start.len());
-    assert_eq!(solve(text.as_bytes()), refused.as_bytes());
+fn the_program_prints_what_the_files_have() {
+    let folder = Path::new(env!("CARGO_MANIFEST_DIR")).join("../tests/questions");
+    let mut count = 0;
+    for entry in fs::read_dir(folder).expect("tests/questions") {
+        let file = entry.expect("a file").path();
+        if file.extension().is_some_and(|kind| kind == "in") {
+            let given = solve(&fs::read(&file).expect("a question"));
+            let wanted = fs::read(file.with_extension("out")).expect("what is printed");
+            assert!(given == wanted, "{}", file.display());
+            count += 1;
+        }
+    }
+    assert!(count > 30);
 }
