@@ -96,7 +96,7 @@ fn each_refusal_of_each_entry_is_there_by_hand() {
     assert_eq!(met, listed.collect::<BTreeSet<_>>());
 }
 
-/// The gate runs the corpus under an emulator, so no search in it is long; and every end and refusal is met.
+/// The gate runs the corpus under an emulator and without a heap, so no search in it is long or needs much room; and every end and refusal is met.
 #[test]
 fn the_corpus_is_broad_and_short() {
     let mut met = BTreeSet::new();
@@ -107,8 +107,13 @@ fn the_corpus_is_broad_and_short() {
         if result[0] == "refused" {
             met.insert(format!("{kind} refused {}", result[1]));
         } else if kind == "run" || kind == "runw" {
-            let visited: u64 = result[1].parse().expect("a number");
-            assert!(visited <= 20_000, "{line}");
+            let number = |field: &str| field.parse::<u64>().expect("a number");
+            assert!(number(result[1]) <= 20_000, "{line}");
+            if kind == "runw" {
+                let room = (number(fields[6]) + 8) * (number(fields[7]) + 8);
+                assert!(room <= 400_000, "{line}");
+                assert!(result[3].split(',').count() <= 4000, "{line}");
+            }
             met.insert(format!("{kind} {}", result[0]));
         } else {
             met.insert(format!("{kind} {}", result[0]));
