@@ -22,7 +22,7 @@ ghost use Rattle.terms.specs.Listing.{answers-of};
 ghost use Rattle.terms.specs.Reading.{question-of};
 ghost use Rattle.search.specs.Ends.{end-of};
 ghost use Rattle.text.specs.Text.{question-text};
-ghost use Rattle.question_reader.specs.Questions.{question-into, answer, laid, arities-of, words-of};
+ghost use Rattle.reader.specs.Lent.{question-into, answer, laid, arities-of, words-of};
 ghost use Rattle.writer.specs.Written.{held, question-written, list-written, text-of-list};
 ghost use Rattle.same.specs.Answering.{equal-answer, solves-answer};
 ghost use Rattle.solver.specs.Result.{told, refuses, result, words-told};

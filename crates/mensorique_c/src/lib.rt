@@ -12,7 +12,7 @@ ghost use Rattle.terms.specs.Reading.{question-of};
 ghost use Rattle.terms.specs.declared.refusal.Refusal.{Refusal as Why};
 ghost use Rattle.search.specs.Ends.{end-of};
 ghost use Rattle.text.specs.Text.{question-text};
-ghost use Rattle.question_reader.specs.Questions.{question-into, laid, arities-of, words-of};
+ghost use Rattle.reader.specs.Lent.{question-into, laid, arities-of, words-of};
 ghost use Rattle.writer.specs.Written.{held, question-written, list-written, text-of-list};
 ghost use Rattle.solver.specs.Result.{told, refuses, words-told};
 ghost use Rattle.replies.specs.Replies.{status, out, place-out};

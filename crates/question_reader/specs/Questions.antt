@@ -1,10 +1,10 @@
 -- A question's text: its header, two terms for each equation, left then right, with nothing after.
 use Prim.Native.Nat.{ℕ, zero, suc, _≤_}
-use mathlib.Core.List.{List, [], _∷_, _++_}
-use lib.Dec.{eqb, ltb}
-use lib.ListN.{length, drop, take}
+use mathlib.Core.List.{List, [], _∷_}
+use lib.Dec.{eqb}
+use lib.ListN.{length, take}
 use Rattle.terms.specs.Bounds.{Bounds}
-use Rattle.terms.specs.declared.refusal.Cause.the-variants.{Byte, Buffer}
+use Rattle.terms.specs.declared.refusal.Cause.the-variants.{Byte}
 use Rattle.text.specs.Keys.{left-key, right-key}
 use Rattle.text.specs.Text.{choose}
 use Rattle.numerals.specs.Reading.{Reading, read, refused, fault, and-then}
@@ -38,33 +38,7 @@ question b s =
     and-then (header b s) (λ p h.
     and-then (equations b s (h .unknowns) (h .arities) (h .equations) p []) (λ q ws. read q (record { head = h; words = ws })))
 
--- refusal 7 comes last: the arities' buffer first, then the words'
-unfoldable pub fitted : ℕ → ℕ → ℕ → Asked → Reading Asked
-fitted m n p q =
-    choose (ltb m (length (q .head .arities))) (λ _. fault Buffer (length (q .head .arities))) (λ _.
-    choose (ltb n (length (q .words))) (λ _. fault Buffer (length (q .words))) (λ _. read p q))
-
--- the question of a text, into buffers of m arities and n words
-unfoldable pub question-into : Bounds → ℕ → ℕ → List ℕ → Reading Asked
-question-into b m n s = and-then (question b s) (fitted m n)
-
--- the entry's answer
-unfoldable pub answer : Reading Asked → Question
-answer (read p q) = Read (q .head .unknowns) (length (q .head .arities)) (q .head .equations) (length (q .words))
-answer (refused r) = Refused r
-
--- a buffer that held l: it begins with what was read, and is as it was after that; a refusal leaves it alone
-unfoldable pub laid : (Asked → List ℕ) → Reading Asked → List ℕ → List ℕ
-laid part (read p q) l = part q ++ drop (length (part q)) l
-laid part (refused r) l = l
-
-abbrev pub arities-of : Asked → List ℕ
-arities-of q = q .head .arities
-
-abbrev pub words-of : Asked → List ℕ
-words-of q = q .words
-
--- the same, of the code's answer before it is laid out, after a text of so many bytes
+-- what the code's answer tells of a text of so many bytes, before it is laid out
 abbrev pub of-question : ℕ → Question → List ℕ → List ℕ → Reading Asked
 of-question len (Read n k e m) ns ws = read len (record { head = record { unknowns = n; arities = take k ns; equations = e }; words = take m ws })
 of-question len (Refused r) ns ws = refused r

@@ -1,4 +1,4 @@
-// The whole text of a question: its header, and two terms for each equation. In specs/, `Questions` says what is read and what the lent buffers hold then;
-// `WholePlaces` where a text is refused.
+// The whole text of a question: its header, and two terms for each equation. In specs/, `Questions` says what is read, and `WholePlaces` where a text is
+// refused.
 
 pub mod whole;

@@ -10,7 +10,8 @@ use Rattle.terms.specs.Bounds.{Bounds, edition-one}
 use Rattle.terms.specs.declared.refusal.Cause.the-variants.{Buffer}
 use Rattle.terms.specs.declared.refusal.Refusal.{Refusal}
 use Rattle.numerals.specs.Reading.{read, refused, then-read, then-refused}
-use Rattle.question_reader.specs.Questions.{Asked, question, fitted, question-into, answer, laid, arities-of, words-of, of-question, Counts}
+use Rattle.question_reader.specs.Questions.{Asked, question, of-question, Counts}
+use Rattle.reader.specs.Lent.{fitted, question-into, answer, laid, arities-of, words-of}
 use Rattle.question_reader.specs.declared.whole.Question.{Question}
 use Rattle.question_reader.specs.declared.whole.Question.the-variants.{Read, Refused}
 

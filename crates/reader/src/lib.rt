@@ -1,3 +1,3 @@
-// How a question's text becomes words in lent buffers: `read_question`. `Questions` of `question_reader` says what it answers and writes.
+// How a question's text becomes words in lent buffers: `read_question`. In specs/, `Lent` says what it answers and what the buffers hold then.
 
 pub mod question;

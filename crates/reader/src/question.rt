@@ -4,7 +4,7 @@ ghost use mathlib.Core.List.{_++_};
 ghost use Prim.Native.Nat.{_≤_};
 ghost use lib.ListN.{length, take, drop};
 ghost use Rattle.terms.specs.Bounds.{edition-one};
-ghost use Rattle.question_reader.specs.Questions.{question-into, answer, laid, arities-of, words-of};
+ghost use Rattle.reader.specs.Lent.{question-into, answer, laid, arities-of, words-of};
 use question_reader::whole::Question;
 use question_reader::whole::read_whole;
 use terms::bounds;

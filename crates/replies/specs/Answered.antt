@@ -10,7 +10,8 @@ use Rattle.terms.specs.Answers.{listed}
 use Rattle.search.specs.Ends.{end-number}
 use Rattle.search.specs.Run.{Outcome}
 use Rattle.numerals.specs.Reading.{read}
-use Rattle.question_reader.specs.Questions.{Asked, question-into, answer}
+use Rattle.question_reader.specs.Questions.{Asked}
+use Rattle.reader.specs.Lent.{question-into, answer}
 use Rattle.writer.specs.declared.written.Written.the-variants.{Length}
 use Rattle.writer.specs.Written.{question-written, list-written}
 use Rattle.same.specs.declared.Equality.the-variants.{Equal, Differ}

@@ -5,7 +5,7 @@ use Rattle.terms.specs.Bounds.{edition-one}
 use Rattle.search.specs.Lent.{lent}
 use Rattle.search.specs.declared.limits.Lent.{Lent}
 use Rattle.search.specs.declared.limits.Lent.the-variants as lents
-use Rattle.question_reader.specs.Questions.{question-into, answer}
+use Rattle.reader.specs.Lent.{question-into, answer}
 use Rattle.writer.specs.Written.{question-written, list-written}
 use Rattle.same.specs.Answering.{equal-answer, solves-answer}
 use Rattle.visits.specs.Loans.{needed}
