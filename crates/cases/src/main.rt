@@ -1,279 +1,148 @@
 // The test driver: cases on standard input, one a line, with TABs between their fields; results on standard output, one a line.
 //
-//   text    HEX                          ->  ok U|A|E|W
-//   writeq  U A E W CAP                  ->  ok HEX
-//   writel  A END VISITED COUNT W CAP    ->  ok HEX
-//   equal   A W                          ->  equal, differ
-//   values  U A E W ROW                  ->  yes, no
-//   run     STEPS DEPTH SIZE SPACE HEX   ->  END VISITED ANSWERS W
+//   text    HEX                                    ->  ok U|A|E|W
+//   read    HEX AC WC                              ->  ok U|A|E|W
+//   writeq  U A E W CAP                            ->  ok HEX
+//   writel  A END VISITED COUNT W CAP              ->  ok HEX
+//   equal   A W                                    ->  equal, differ
+//   values  U A E W ROW                            ->  yes, no
+//   run     STEPS DEPTH SIZE SPACE HEX             ->  END VISITED ANSWERS W
+//   runw    U A E W STEPS DEPTH SIZE SPACE ROOM    ->  END VISITED ANSWERS W
 //
-// Where an entry refuses, the result is `refused N P`. HEX is bytes in hex; A, W and ROW are numbers with commas between, possibly none; CAP is the length of
-// the lent text buffer. A line that is no case ends the program, with a word on standard error. `reading`, `writing`, `testing` and
-// `running` have the kinds; a further kind is one more test in `answer`.
-mod asked;
-mod memory;
-mod page;
-mod reading;
-mod results;
-mod running;
-mod testing;
-mod writing;
-
-use bytes::scan::find;
-use check::same;
-use fields::line::field;
+// Where an entry refuses, the result is `refused N P`. HEX is bytes in hex; A, W and ROW are numbers with commas between, possibly none; the others are
+// numbers, of which AC, WC, CAP, SPACE and ROOM say how much is lent. A line that is no case ends the program, with a word on standard error.
+//
+// Crate `case_lines` reads the lines and writes the results; `entry_cases` and `run_cases` have the kinds.
+use case_lines::answer::Answer;
+use case_lines::answer::put_answer;
+use case_lines::buffers::Bytes;
+use case_lines::buffers::Input;
+use case_lines::buffers::Page;
+use case_lines::buffers::Room;
+use case_lines::buffers::Words;
+use case_lines::case::case_of;
+use case_lines::input::NONE_YET;
+use case_lines::input::line_of;
+use case_lines::input::next_line;
+use case_lines::kind::Kind;
+use entry_cases::entry_answer;
 use fields::line::first_bytes;
-use fields::line::tabs;
+use fields::line::first_words;
 use libc::STDERR_FILENO;
-use libc::STDIN_FILENO;
-use memory::zeros;
-use page::turn;
-use page::write_out;
+use libc::STDOUT_FILENO;
 use pen::put::put_byte;
-use pen::put::put_bytes;
-use reading::text_case;
-use results::Outcome;
-use running::run_case;
-use testing::equal_case;
-use testing::values_case;
-use writing::writel_case;
-use writing::writeq_case;
-
-const CHUNK: usize = 65536;
-
-// The longest line of cases.
-const LINE: usize = 131072;
-
-// The most numbers in a list; a line with more is no case. A word gives 12 bytes of text at most, as `unknown=511` and LF, so that TEXT holds every text.
-const ITEMS: usize = 12288;
-
-const TEXT: usize = 147456;
-
-const PAGE: usize = 131072;
+use run_cases::run_answer;
 
 const LINE_FEED: u8 = 10;
 
-// The case of a line, by its kind and its count of TABs.
 fn answer(
+    kind: Kind,
+    numbers: [u64; 10],
+    bytes: &[u8],
+    words: &[u16],
+    row: &[u16],
+    laid_bytes: &mut [u8],
+    laid_words: &mut [u16],
+    room: &mut [u16],
+) -> Answer {
+    match kind {
+        Kind::Run | Kind::Runw => run_answer(kind, numbers, bytes, words, laid_words, room),
+        _ => entry_answer(kind, numbers, bytes, words, row, laid_bytes, laid_words),
+    }
+}
+
+// The length of a line's result on the page.
+fn take_line(
     line: &[u8],
-    arities: &mut [u8],
+    bytes: &mut [u8],
     words: &mut [u16],
     row: &mut [u16],
-    text: &mut [u8],
+    laid_bytes: &mut [u8],
+    laid_words: &mut [u16],
+    room: &mut [u16],
     page: &mut [u8],
-    at: usize,
-) -> Outcome {
-    let kind = field(line, 0);
-    let further = tabs(line);
-    if same(kind, b"text") {
-        if further == 1 {
-            return text_case(line, arities, words, row, text, page, at);
-        }
-        return Outcome::Malformed;
-    }
-    if same(kind, b"writeq") {
-        if further == 5 {
-            return writeq_case(line, arities, words, row, text, page, at);
-        }
-        return Outcome::Malformed;
-    }
-    if same(kind, b"writel") {
-        if further == 6 {
-            return writel_case(line, arities, words, row, text, page, at);
-        }
-        return Outcome::Malformed;
-    }
-    if same(kind, b"equal") {
-        if further == 2 {
-            return equal_case(line, arities, words, row, page, at);
-        }
-        return Outcome::Malformed;
-    }
-    if same(kind, b"values") {
-        if further == 5 {
-            return values_case(line, arities, words, row, page, at);
-        }
-        return Outcome::Malformed;
-    }
-    if same(kind, b"run") {
-        if further == 5 {
-            return run_case(line, arities, words, row, text, page, at);
-        }
-        return Outcome::Malformed;
-    }
-    Outcome::Malformed
+) -> usize {
+    let case = case_of(line, bytes, words, row);
+    let kind = case.kind;
+    let numbers = case.numbers;
+    let told = answer(
+        kind,
+        numbers,
+        first_bytes(bytes, case.bytes),
+        first_words(words, case.words),
+        first_words(row, case.row),
+        laid_bytes,
+        laid_words,
+        room,
+    );
+    put_answer(page, told, laid_bytes, laid_words)
 }
 
-// How far the driver is: bytes of a line that has begun, lines done, bytes of the page, and whether it goes on.
-struct Progress {
-    held: usize,
-    lines: u64,
-    used: usize,
-    going: bool,
+// Writes out the result that stands on a page.
+fn write_out(page: &mut Page, length: usize) {
+    let end = put_byte(page, length, LINE_FEED);
+    io::write_all(STDOUT_FILENO, first_bytes(page, end));
 }
 
-fn one_more(lines: u64) -> u64 {
-    if lines < u64::MAX {
-        return lines + 1;
-    }
-    lines
-}
-
-// The results so far, and a word on the line that is no case.
-fn stop(page: &[u8], used: usize, line: u64) -> Progress {
-    write_out(page, used);
+// A word on the line that is no case.
+fn complain(line: u64) {
     io::write_all(STDERR_FILENO, b"cases: line ");
     io::print_decimal(STDERR_FILENO, line);
     io::write_all(STDERR_FILENO, b": malformed case\n");
-    Progress {
-        held: 0,
-        lines: line,
-        used: 0,
-        going: false,
-    }
 }
 
-// A whole line of so many bytes. A line that is longer than what holds it is no case.
-fn take_line(
-    line: &[u8],
-    held: usize,
-    arities: &mut [u8],
-    words: &mut [u16],
-    row: &mut [u16],
-    text: &mut [u8],
-    page: &mut [u8],
-    progress: Progress,
-) -> Progress {
-    let used = progress.used;
-    let number = one_more(progress.lines);
-    if line.len() < held {
-        return stop(page, used, number);
-    }
-    match answer(
-        first_bytes(line, held),
-        arities,
-        words,
-        row,
-        text,
-        page,
-        used,
-    ) {
-        Outcome::Told(next) => {
-            let after = put_byte(page, next, LINE_FEED);
-            Progress {
-                held: 0,
-                lines: number,
-                used: turn(page, after),
-                going: true,
-            }
-        }
-        Outcome::Malformed => stop(page, used, number),
-    }
-}
-
-// The lines of a chunk of input. What stands after its last LF begins the next line.
-fn take_chunk(
-    chunk: &[u8],
-    line: &mut [u8],
-    arities: &mut [u8],
-    words: &mut [u16],
-    row: &mut [u16],
-    text: &mut [u8],
-    page: &mut [u8],
-    before: Progress,
-) -> Progress {
-    let mut progress = before;
-    let mut from = 0;
-    while from < chunk.len() {
-        let end = find(chunk, from, chunk.len(), LINE_FEED);
-        let held = put_bytes(line, progress.held, &chunk[from..end]);
-        if end == chunk.len() {
-            progress.held = held;
-            return progress;
-        }
-        from = end + 1;
-        progress = take_line(line, held, arities, words, row, text, page, progress);
-        if !progress.going {
-            return progress;
-        }
-    }
-    progress
-}
-
-// The input has ended: a line that no LF closes is a line too.
-fn finish(
-    line: &[u8],
-    arities: &mut [u8],
-    words: &mut [u16],
-    row: &mut [u16],
-    text: &mut [u8],
-    page: &mut [u8],
-    progress: Progress,
+// Line after line until the input ends. Nothing says that it does, so the lines are counted up to a number that no run reaches.
+fn take_lines(
+    input: &mut Input,
+    bytes: &mut Bytes,
+    words: &mut Words,
+    row: &mut Words,
+    laid_bytes: &mut Bytes,
+    laid_words: &mut Words,
+    room: &mut Room,
+    page: &mut Page,
 ) {
-    let held = progress.held;
-    if held == 0 {
-        write_out(page, progress.used);
-        return;
-    }
-    let last = take_line(line, held, arities, words, row, text, page, progress);
-    write_out(page, last.used);
-}
-
-// Chunk after chunk until the input ends. Nothing says that it does, so the turns are counted down from a number that no run uses up.
-fn take_all(
-    chunk: &mut [u8],
-    line: &mut [u8],
-    arities: &mut [u8],
-    words: &mut [u16],
-    row: &mut [u16],
-    text: &mut [u8],
-    page: &mut [u8],
-) {
-    let mut progress = Progress {
-        held: 0,
-        lines: 0,
-        used: 0,
-        going: true,
-    };
-    let mut turns = u64::MAX;
-    while 0 < turns {
-        let n = io::read_full(STDIN_FILENO, chunk);
-        if n == 0 {
-            finish(line, arities, words, row, text, page, progress);
+    let mut line = NONE_YET;
+    for number in 1..u64::MAX {
+        line = next_line(input, line);
+        if line.ended {
             return;
         }
-        progress = take_chunk(
-            first_bytes(chunk, n),
-            line,
-            arities,
+        let length = take_line(
+            line_of(input, line),
+            bytes,
             words,
             row,
-            text,
+            laid_bytes,
+            laid_words,
+            room,
             page,
-            progress,
         );
-        if !progress.going {
+        if length == 0 {
+            complain(number);
             return;
         }
-        turns -= 1;
+        write_out(page, length);
     }
 }
 
 fn main() {
-    let mut chunk = [0u8; CHUNK];
-    let mut line = [0u8; LINE];
-    let mut arities = [0u8; ITEMS];
-    let mut words = [0u16; ITEMS];
-    let mut row = zeros();
-    let mut text = [0u8; TEXT];
-    let mut page = [0u8; PAGE];
-    take_all(
-        &mut chunk,
-        &mut line,
-        &mut arities,
+    let mut input = [0u8; 131073];
+    let mut bytes = [0u8; 147456];
+    let mut words = [0u16; 12288];
+    let mut row = [0u16; 12288];
+    let mut laid_bytes = [0u8; 147456];
+    let mut laid_words = [0u16; 12288];
+    let mut room = [0u16; 3000000];
+    let mut page = [0u8; 294928];
+    take_lines(
+        &mut input,
+        &mut bytes,
         &mut words,
         &mut row,
-        &mut text,
+        &mut laid_bytes,
+        &mut laid_words,
+        &mut room,
         &mut page,
     );
 }

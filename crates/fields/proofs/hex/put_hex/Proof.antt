@@ -1,6 +1,5 @@
-use Prim.Native.Nat.{_-_}
 use borrow.Author.Needs.{needs}
-use native.Mathlib.Omega.{arith}
+use Prim.Native.Nat.{_-_}
 use mathlib.Core.Path.{_≡_}
 use lib.ListN.{length}
 use Rattle.fields.proofs.hex.put_hex.Statement.{statement}
@@ -15,26 +14,11 @@ abbrev μ-loop : tie.MeasureT-loop
 loop-holds : tie.Need-loop-holds Inv-loop μ-loop
 loop-holds c = search needs
 
-shared-slice-read-byte : tie.Need-shared-slice-read-byte Inv-loop μ-loop
-shared-slice-read-byte c = search needs
+shared-slice-read-put-pair : tie.Need-shared-slice-read-put-pair Inv-loop μ-loop
+shared-slice-read-put-pair c = search needs
 
-high-requires : tie.Need-high-requires Inv-loop μ-loop
-high-requires c κs = search needs
-
-digit-of-requires : tie.Need-digit-of-requires Inv-loop μ-loop
-digit-of-requires c κs = search needs
-
-put-byte-requires : tie.Need-put-byte-requires Inv-loop μ-loop
-put-byte-requires c κs = search needs
-
-low-requires : tie.Need-low-requires Inv-loop μ-loop
-low-requires c κs = search needs
-
-digit-of-requires-2 : tie.Need-digit-of-requires-2 Inv-loop μ-loop
-digit-of-requires-2 c κs = search needs
-
-put-byte-requires-2 : tie.Need-put-byte-requires-2 Inv-loop μ-loop
-put-byte-requires-2 c κs = search needs
+put-pair-requires : tie.Need-put-pair-requires Inv-loop μ-loop
+put-pair-requires c κs = search needs
 
 add-i : tie.Need-add-i Inv-loop μ-loop
 add-i c = search needs
@@ -58,13 +42,8 @@ put-hex-spec =
     Inv-loop
     μ-loop
     loop-holds
-    shared-slice-read-byte
-    high-requires
-    digit-of-requires
-    put-byte-requires
-    low-requires
-    digit-of-requires-2
-    put-byte-requires-2
+    shared-slice-read-put-pair
+    put-pair-requires
     add-i
     loop-less
     loop-again

@@ -1,6 +1,5 @@
-use Prim.Native.Nat.{_-_, _≤_}
 use borrow.Author.Needs.{needs}
-use native.Mathlib.Omega.{arith}
+use Prim.Native.Nat.{_-_, _≤_}
 use mathlib.Core.Path.{_≡_}
 use lib.ListN.{length}
 use Rattle.fields.proofs.list.read_words.Statement.{statement}
@@ -21,20 +20,17 @@ loop-holds c = search needs
 find-requires : tie.Need-find-requires Inv-loop μ-loop
 find-requires c κs = search needs
 
-sub-read-number : tie.Need-sub-read-number Inv-loop μ-loop
-sub-read-number c = search needs
+sub-word-in : tie.Need-sub-word-in Inv-loop μ-loop
+sub-word-in c = search needs
 
-part-read-number-start : tie.Need-part-read-number-start Inv-loop μ-loop
-part-read-number-start c = search needs
+part-word-in-start : tie.Need-part-word-in-start Inv-loop μ-loop
+part-word-in-start c = search needs
 
-part-read-number-end : tie.Need-part-read-number-end Inv-loop μ-loop
-part-read-number-end c = search needs
+part-word-in-end : tie.Need-part-word-in-end Inv-loop μ-loop
+part-word-in-end c = search needs
 
-read-number-requires : tie.Need-read-number-requires Inv-loop μ-loop
-read-number-requires c κs = search needs
-
-enum-known-value : tie.Need-enum-known-value Inv-loop μ-loop
-enum-known-value c = search needs
+word-in-requires : tie.Need-word-in-requires Inv-loop μ-loop
+word-in-requires c κs = search needs
 
 same-length : tie.Need-same-length Inv-loop μ-loop
 same-length c = search needs
@@ -69,20 +65,11 @@ loop-less c = search needs
 loop-again : tie.Need-loop-again Inv-loop μ-loop
 loop-again c = search needs
 
-enum-told : tie.Need-enum-told Inv-loop μ-loop
-enum-told c = search needs
-
 same-length-3 : tie.Need-same-length-3 Inv-loop μ-loop
 same-length-3 c = search needs
 
 returns-4 : tie.Need-returns-4 Inv-loop μ-loop
 returns-4 c = search needs
-
-same-length-4 : tie.Need-same-length-4 Inv-loop μ-loop
-same-length-4 c = search needs
-
-returns-5 : tie.Need-returns-5 Inv-loop μ-loop
-returns-5 c = search needs
 
 pub read-words-spec : {M : Type 1} → statement M
 read-words-spec =
@@ -93,11 +80,10 @@ read-words-spec =
     returns
     loop-holds
     find-requires
-    sub-read-number
-    part-read-number-start
-    part-read-number-end
-    read-number-requires
-    enum-known-value
+    sub-word-in
+    part-word-in-start
+    part-word-in-end
+    word-in-requires
     same-length
     returns-2
     cast-words
@@ -109,8 +95,5 @@ read-words-spec =
     add-from
     loop-less
     loop-again
-    enum-told
     same-length-3
-    returns-4
-    same-length-4
-    returns-5)
+    returns-4)
