@@ -87,11 +87,11 @@ extern "C" {
 /* Bytes of stack that are enough for any call. */
 #define MENSORIQUE_STACK 1048576
 
-/* Words. Unknowns of a question are numbered from 0; those that a run makes are numbered on from the question's, at most to 511. */
-#define MENSORIQUE_EMPTY      0u
-#define MENSORIQUE_WITH       1u
-#define MENSORIQUE_UNKNOWN(i) (1000u + (i))
-#define MENSORIQUE_FUNCTOR(k) (2000u + (k))
+/* Words, each a uint16_t. Unknowns of a question are numbered from 0; those that a run makes are numbered on from the question's, at most to 511. */
+#define MENSORIQUE_EMPTY      ((uint16_t)0u)
+#define MENSORIQUE_WITH       ((uint16_t)1u)
+#define MENSORIQUE_UNKNOWN(i) ((uint16_t)(1000u + (unsigned)(i)))
+#define MENSORIQUE_FUNCTOR(k) ((uint16_t)(2000u + (unsigned)(k)))
 
 /* The words of room that a run needs, for a depth and a size within the limits. */
 #define MENSORIQUE_ROOM_WORDS(depth, size) (((size_t)(depth) + 8u) * ((size_t)(size) + 8u))
