@@ -50,6 +50,12 @@
 extern "C" {
 #endif
 
+/* The version of the product: as the file VERSION has it. */
+#define MENSORIQUE_VERSION       "4.0.0"
+#define MENSORIQUE_VERSION_MAJOR 4
+#define MENSORIQUE_VERSION_MINOR 0
+#define MENSORIQUE_VERSION_PATCH 0
+
 /* Statuses. */
 #define MENSORIQUE_GRANTED            0u
 #define MENSORIQUE_REFUSED_BYTE       1u
