@@ -1,4 +1,4 @@
-/* Mensorique: equations between finite sets.
+/* Mensorique: equations between finite sets. This is the reference; mensorique_call.h has the same functions with named fields.
  *
  * A question is a list of equations between terms. A run lists every solved form of it, in a fixed order, within lent limits. There are functions that read
  * and write questions and lists as text, that test two ground terms for equality, and that test whether given ground values solve a question. Every
@@ -26,8 +26,12 @@
  * that can't stand there, or at the length where they stop.
  *
  * POINTERS. An out pointer points to one number, always. A buffer is a pointer and the count of its elements. With a count of 0 the pointer is not
- * followed; it may point anywhere, and to nothing too (NULL). No buffer that is written, and no out number, may overlap another argument;
- * buffers that are only read may overlap each other. Nothing is kept from one call to the next.
+ * followed; it may point anywhere, and to nothing too (NULL). Nothing is kept from one call to the next.
+ *
+ * OVERLAP. No buffer that is written, and no out number, may overlap another argument; buffers that are only read may overlap each other. No function looks for
+ * it, and what comes back is then worth nothing, though it may look like a result: {x0,x1,x2|x3} = {f0,f1,f2} has 168 answers, and with its words at
+ * the room's start a run gave MENSORIQUE_GRANTED, MENSORIQUE_END_DONE and none. mensorique_call.h, where arguments are named fields, compares the
+ * ranges first and refuses.
  *
  * THREADS. There is no global state: calls may run at the same time as long as none writes what another uses. For runs that means that each has its own
  * room and its own words for answers.
@@ -77,15 +81,16 @@ extern "C" {
 #define MENSORIQUE_END_NAMES 24u /* the due node would need unknown 512; never given for a question within the limits */
 
 /* Limits: the most that is taken of each. */
-#define MENSORIQUE_MOST_UNKNOWNS  256
-#define MENSORIQUE_MOST_FUNCTORS  256
-#define MENSORIQUE_MOST_ARITY     8
-#define MENSORIQUE_MOST_EQUATIONS 64
-#define MENSORIQUE_MOST_WORDS     4096 /* in a question's terms together, and in the ground terms lent to one call */
-#define MENSORIQUE_MOST_NESTING   200  /* in text */
-#define MENSORIQUE_MOST_STEPS     1000000000
-#define MENSORIQUE_MOST_DEPTH     1024
-#define MENSORIQUE_MOST_SIZE      8192
+#define MENSORIQUE_MOST_UNKNOWNS      256
+#define MENSORIQUE_MOST_PATH_UNKNOWNS 512 /* with those that a run makes */
+#define MENSORIQUE_MOST_FUNCTORS      256
+#define MENSORIQUE_MOST_ARITY         8
+#define MENSORIQUE_MOST_EQUATIONS     64
+#define MENSORIQUE_MOST_WORDS         4096 /* in a question's terms together, and in the ground terms lent to one call */
+#define MENSORIQUE_MOST_NESTING       200  /* in text */
+#define MENSORIQUE_MOST_STEPS         1000000000
+#define MENSORIQUE_MOST_DEPTH         1024
+#define MENSORIQUE_MOST_SIZE          8192
 
 /* A buffer of so many bytes holds every question's text. */
 #define MENSORIQUE_QUESTION_TEXT 32768
