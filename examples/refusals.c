@@ -28,7 +28,7 @@ static void mark(void) {
 }
 
 static int marked(const void *buffer, size_t bytes) {
-    const unsigned char *at = buffer;
+    const unsigned char *at = (const unsigned char *)buffer;
     for (size_t i = 0; i < bytes; i++)
         if (at[i] != MARK)
             return 0;
@@ -58,7 +58,7 @@ static const uint8_t arities[] = {0};
 static const uint16_t words[] = {MENSORIQUE_UNKNOWN(0), MENSORIQUE_WITH, MENSORIQUE_FUNCTOR(0), MENSORIQUE_UNKNOWN(0)};
 static const uint16_t bad_words[] = {MENSORIQUE_UNKNOWN(0), 65535};
 static const uint8_t bad_arities[] = {9};
-static const uint16_t many_words[MENSORIQUE_MOST_WORDS + 1];
+static const uint16_t many_words[MENSORIQUE_MOST_WORDS + 1] = {0};
 
 static uint32_t read_lines(const char *lines, size_t arities_length, size_t words_length) {
     return mensorique_read_question((const uint8_t *)lines, strlen(lines), read_arities, arities_length, read_words, words_length, &unknowns, &functors,

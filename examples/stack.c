@@ -8,7 +8,7 @@
 #include <stdlib.h>
 #include <string.h>
 
-enum { PAINT = 0xA5, PAINTED = 8 * MENSORIQUE_STACK };
+enum { PAINT = 0xA5, PAINTED = 8 * MENSORIQUE_STACK, PAGE = 4096 };
 
 /* f0 has no arguments, f1 has one */
 static const uint8_t arities[] = {0, 1};
@@ -107,17 +107,23 @@ static void *make(void *call) {
 /* The bytes of stack that a call used, the thread's own among them. */
 static size_t used_by(void (*made)(int), int sets) {
     struct call call = {made, sets};
-    unsigned char *stack = aligned_alloc(65536, PAINTED);
+    void *lent = NULL;
     pthread_attr_t attributes;
     pthread_t thread;
-    if (stack == NULL)
+    if (posix_memalign(&lent, 65536, PAINTED) != 0)
         exit(2);
+    unsigned char *stack = (unsigned char *)lent;
     memset(stack, PAINT, PAINTED);
     if (pthread_attr_init(&attributes) != 0 || pthread_attr_setstack(&attributes, stack, PAINTED) != 0 ||
         pthread_create(&thread, &attributes, make, &call) != 0 || pthread_join(thread, NULL) != 0)
         exit(2);
     pthread_attr_destroy(&attributes);
+    /* The paint that is left: a page byte by byte, then by pages that are as the first. */
     size_t left = 0;
+    while (left < PAGE && stack[left] == PAINT)
+        left++;
+    while (left >= PAGE && left < PAINTED && memcmp(stack + left, stack, PAGE) == 0)
+        left += PAGE;
     while (left < PAINTED && stack[left] == PAINT)
         left++;
     free(stack);
