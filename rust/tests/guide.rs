@@ -11,6 +11,7 @@ fn the_guide_shows_the_examples() {
         let (kind, code) = block.split_once('\n').unwrap();
         let file = match kind {
             "c" => "planner.c",
+            "cpp" => "planner.cc",
             "rust" => "planner.rs",
             "text" => "planner.expected",
             other => panic!("a block of {other:?}"),
@@ -19,5 +20,5 @@ fn the_guide_shows_the_examples() {
         assert!(example.contains(code), "{file} has not:\n{code}");
         shown += 1;
     }
-    assert_eq!(shown, 6);
+    assert_eq!(shown, 9);
 }
