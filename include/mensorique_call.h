@@ -135,7 +135,7 @@ struct mensorique_read {
     struct mensorique_question question;
 };
 
-/* Of writing: how many bytes or words were written. For MENSORIQUE_REFUSED_BUFFER the place is how many it takes. */
+/* Of writing: how many bytes were written. For MENSORIQUE_REFUSED_BUFFER the place is how many it takes. */
 struct mensorique_written {
     uint32_t status;
     size_t place;

@@ -1,7 +1,7 @@
 /* Mensorique: through a list of answers.
  *
  * The end of a term, the next answer, the next binding, and what an unknown stands for when all bindings are put in. All is static inline, in C99 and C++11;
- * nothing is allocated, nothing recurses, and every loop ends, whatever the words are. mensorique_print.h has a printer that takes names.
+ * nothing is allocated, nothing recurses, and every loop ends, whatever the words are. Of stack, putting values in takes some 5 KiB, and the rest less than one.
  *
  *     for (answer = mensorique_first_answer(ran.list); answer.found == MENSORIQUE_HERE; answer = mensorique_next_answer(answer))
  *         for (binding = mensorique_first_binding(answer); binding.found == MENSORIQUE_HERE; binding = mensorique_next_binding(binding))
@@ -107,10 +107,13 @@ static inline struct mensorique_binding mensorique_binding_at(struct mensorique_
     struct mensorique_binding binding;
     binding.found = left == 0 ? MENSORIQUE_NO_MORE : MENSORIQUE_BROKEN;
     binding.unknown = 0;
+    binding.value = mensorique_words_after(rest, rest.words_length);
     binding.rest = rest;
     binding.left = left;
+    if (left == 0 || rest.words_length == 0 || rest.words[0] >= MENSORIQUE_MOST_PATH_UNKNOWNS)
+        return binding;
     binding.value = mensorique_first_term(mensorique_words_after(rest, 1));
-    if (left == 0 || binding.value.words_length == 0 || rest.words[0] >= MENSORIQUE_MOST_PATH_UNKNOWNS)
+    if (binding.value.words_length == 0)
         return binding;
     binding.found = MENSORIQUE_HERE;
     binding.unknown = rest.words[0];
