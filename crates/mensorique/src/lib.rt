@@ -15,17 +15,15 @@
 // Counts are taken at full width: one that is too large is refused, never cut.
 ghost use mathlib.Core.Path.{_≡_};
 ghost use lib.ListN.{length};
-ghost use Rattle.room.specs.Room.{put};
 ghost use Rattle.terms.specs.Bounds.{edition-one};
-ghost use Rattle.terms.specs.declared.refusal.Refusal.{Refusal as Why};
 ghost use Rattle.terms.specs.Listing.{answers-of};
 ghost use Rattle.terms.specs.Reading.{question-of};
 ghost use Rattle.search.specs.Ends.{end-of};
 ghost use Rattle.text.specs.Text.{question-text};
-ghost use Rattle.reader.specs.Lent.{question-into, answer, laid, arities-of, words-of};
+ghost use Rattle.reader.specs.Lent.{ReadGives, question-into};
 ghost use Rattle.writer.specs.Written.{held, question-written, list-written, text-of-list};
 ghost use Rattle.same.specs.Answering.{equal-answer, solves-answer};
-ghost use Rattle.solver.specs.Result.{told, refuses, result, words-told};
+ghost use Rattle.solver.specs.Result.{RunGives, told};
 pub use question_reader::whole::Question;
 pub use record::Record;
 pub use same::Equality;
@@ -46,9 +44,7 @@ pub use writer::written::Written;
 //   Example: the six lines edition=1, unknowns=1, arities=0, equations=1, left=x0, right={f0|x0} give Read(1, 1, 1, 4), arities 0, words
 //   1000 1 2000 1000.
 pub fn read_question(text: &[u8], arities: &mut [u8], words: &mut [u16]) -> Question
-    ensures told { λ r. ⌜ r ≡ answer (question-into edition-one (length (now (arities .entry))) (length (now (words .entry))) (now (text .entry))) ⌝ }
-    ensures arities { λ _. ⌜ now (arities .exit) ≡ laid arities-of (question-into edition-one (length (now (arities .entry))) (length (now (words .entry))) (now (text .entry))) (now (arities .entry)) ⌝ }
-    ensures words { λ _. ⌜ now (words .exit) ≡ laid words-of (question-into edition-one (length (now (arities .entry))) (length (now (words .entry))) (now (text .entry))) (now (words .entry)) ⌝ }
+    ensures { λ r. ⌜ ReadGives (question-into edition-one (length (now (arities .entry))) (length (now (words .entry))) (now (text .entry))) r (now (arities .entry)) (now (arities .exit)) (now (words .entry)) (now (words .exit)) ⌝ }
 {
     reader::question::read_question(text, arities, words)
 }
@@ -140,9 +136,7 @@ pub fn run(
     answers: &mut [u16],
     room: &mut [u16],
 ) -> Ran
-    ensures told { λ r. ⌜ r ≡ result (told unknowns (now (arities .entry)) equations (now (words .entry)) steps depth size (length (now (answers .entry))) (length (now (room .entry)))) ⌝ }
-    ensures answers { λ _. ⌜ now (answers .exit) ≡ put (now (answers .entry)) 0 (words-told (told unknowns (now (arities .entry)) equations (now (words .entry)) steps depth size (length (now (answers .entry))) (length (now (room .entry))))) ⌝ }
-    ensures room { λ _. ⌜ ((why : Why) → told unknowns (now (arities .entry)) equations (now (words .entry)) steps depth size (length (now (answers .entry))) (length (now (room .entry))) ≡ refuses why → now (room .exit) ≡ now (room .entry)) ⌝ }
+    ensures { λ r. ⌜ RunGives (told unknowns (now (arities .entry)) equations (now (words .entry)) steps depth size (length (now (answers .entry))) (length (now (room .entry)))) r (now (answers .entry)) (now (answers .exit)) (now (room .entry)) (now (room .exit)) ⌝ }
 {
     solver::run(
         unknowns,

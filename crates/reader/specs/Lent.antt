@@ -1,5 +1,6 @@
 -- A question's text read into lent buffers: what the entry answers, and what the buffers hold then.
 use Prim.Native.Nat.{ℕ}
+use mathlib.Core.Path.{_≡_}
 use mathlib.Core.List.{List, _++_}
 use lib.Dec.{ltb}
 use lib.ListN.{length, drop}
@@ -36,3 +37,9 @@ arities-of q = q .head .arities
 
 abbrev pub words-of : Asked → List ℕ
 words-of q = q .words
+
+-- what a call gives back where this is read, and what the two buffers hold before and after it
+pub record ReadGives (x : Reading Asked) (back : Question) (arities arities-after words words-after : List ℕ) : Type 0 where
+  pub told-back : back ≡ answer x
+  pub arities-laid : arities-after ≡ laid arities-of x arities
+  pub words-laid : words-after ≡ laid words-of x words

@@ -4,7 +4,7 @@ ghost use mathlib.Core.List.{_++_};
 ghost use Prim.Native.Nat.{_≤_};
 ghost use lib.ListN.{length, take, drop};
 ghost use Rattle.terms.specs.Bounds.{edition-one};
-ghost use Rattle.reader.specs.Lent.{question-into, answer, laid, arities-of, words-of};
+ghost use Rattle.reader.specs.Lent.{ReadGives, question-into};
 use question_reader::whole::Question;
 use question_reader::whole::read_whole;
 use terms::bounds;
@@ -38,9 +38,7 @@ fn lay_words(from: &[u16], n: usize, to: &mut [u16])
 // The question of a text: its arities and its words go to the start of the lent buffers, and what stands after them stays.
 // A refused text leaves both alone. The whole is read before a buffer is written.
 pub fn read_question(text: &[u8], arities: &mut [u8], words: &mut [u16]) -> Question
-    ensures told { λ r. ⌜ r ≡ answer (question-into edition-one (length (now (arities .entry))) (length (now (words .entry))) (now (text .entry))) ⌝ }
-    ensures arities { λ _. ⌜ now (arities .exit) ≡ laid arities-of (question-into edition-one (length (now (arities .entry))) (length (now (words .entry))) (now (text .entry))) (now (arities .entry)) ⌝ }
-    ensures words { λ _. ⌜ now (words .exit) ≡ laid words-of (question-into edition-one (length (now (arities .entry))) (length (now (words .entry))) (now (text .entry))) (now (words .entry)) ⌝ }
+    ensures { λ r. ⌜ ReadGives (question-into edition-one (length (now (arities .entry))) (length (now (words .entry))) (now (text .entry))) r (now (arities .entry)) (now (arities .exit)) (now (words .entry)) (now (words .exit)) ⌝ }
 {
     let mut table = [0u8; bounds::FUNCTORS];
     let mut held = [0u16; bounds::SYMBOLS];

@@ -1,36 +1,49 @@
--- What each call of C is told, by what was lent: the reply to the entry's answer; and the words of a run's room.
+-- What a call of C gives that lends buffers: the reply to the entry's answer, and the buffers as the entry leaves them. And the words of a run's room.
 use Prim.Native.Nat.{ℕ}
+use mathlib.Core.Path.{_≡_}
 use mathlib.Core.List.{List}
-use Rattle.terms.specs.Bounds.{edition-one}
 use Rattle.search.specs.Lent.{lent}
 use Rattle.search.specs.declared.limits.Lent.{Lent}
 use Rattle.search.specs.declared.limits.Lent.the-variants as lents
-use Rattle.reader.specs.Lent.{question-into, answer}
-use Rattle.writer.specs.Written.{question-written, list-written}
-use Rattle.same.specs.Answering.{equal-answer, solves-answer}
+use Rattle.numerals.specs.Reading.{Reading}
+use Rattle.question_reader.specs.Questions.{Asked}
+use Rattle.question_reader.specs.declared.whole.Question.{Question}
+use Rattle.reader.specs.Lent.{ReadGives, answer}
+use Rattle.writer.specs.Written.{held}
+use Rattle.writer.specs.declared.written.Written.{Written}
 use Rattle.visits.specs.Loans.{needed}
-use Rattle.solver.specs.Result.{told, result}
-use Rattle.replies.specs.Replies.{Reply, of-question, of-written, of-equality, of-solving, of-ran}
+use Rattle.solver.specs.Result.{RunGives, Told, result}
+use Rattle.solver.specs.declared.Ran.{Ran}
+use Rattle.replies.specs.Replies.{Replied, of-question, of-written, of-ran}
 
--- ---- the calls' replies, by what was lent
+-- ---- by what the entry reads, writes or tells; of each number, of the place and of each buffer what it is before and after
 
-abbrev pub read-reply : (arities words : ℕ) (text : List ℕ) → Reply
-read-reply arities words text = of-question (answer (question-into edition-one arities words text))
+pub record ReadReplied (x : Reading Asked) (back : ℕ) (numbers numbers-after : List ℕ) (place place-after : ℕ) (arities arities-after words words-after : List ℕ) : Type 0 where
+  pub reply : Replied (of-question (answer x)) back numbers numbers-after place place-after
+  pub gives : ReadGives x (answer x) arities arities-after words words-after
 
-abbrev pub question-reply : (unknowns : ℕ) (arities : List ℕ) (equations : ℕ) (words : List ℕ) (room : ℕ) → Reply
-question-reply unknowns arities equations words room = of-written (question-written edition-one unknowns arities equations words room)
+pub record WriteReplied (w : Written) (text : List ℕ) (back : ℕ) (numbers numbers-after : List ℕ) (place place-after : ℕ) (buffer buffer-after : List ℕ) : Type 0 where
+  pub reply : Replied (of-written w) back numbers numbers-after place place-after
+  pub holds : buffer-after ≡ held w text buffer
 
-abbrev pub list-reply : (arities : List ℕ) (end visited answers : ℕ) (words : List ℕ) (room : ℕ) → Reply
-list-reply arities end visited answers words room = of-written (list-written edition-one arities end visited answers words room)
+pub record RunReplied (t : Told) (back : ℕ) (numbers numbers-after : List ℕ) (place place-after : ℕ) (answers answers-after room room-after : List ℕ) : Type 0 where
+  pub reply : Replied (of-ran (result t)) back numbers numbers-after place place-after
+  pub gives : RunGives t (result t) answers answers-after room room-after
 
-abbrev pub equal-reply : (arities row : List ℕ) → Reply
-equal-reply arities row = of-equality (equal-answer edition-one arities row)
+-- ---- so a call gives it that hands on the entry's answer
 
-abbrev pub solves-reply : (unknowns : ℕ) (arities : List ℕ) (equations : ℕ) (words row : List ℕ) → Reply
-solves-reply unknowns arities equations words row = of-solving (solves-answer edition-one unknowns arities equations words row)
+module _ {back : ℕ} {numbers numbers-after : List ℕ} {place place-after : ℕ} where
+  pub read-replied : {x : Reading Asked} {question : Question} {arities arities-after words words-after : List ℕ} → ReadGives x question arities arities-after words words-after
+      → Replied (of-question question) back numbers numbers-after place place-after → ReadReplied x back numbers numbers-after place place-after arities arities-after words words-after
+  read-replied g h = record { reply = rw (g .told-back) at h; gives = rw (g .told-back) at g }
 
-abbrev pub run-reply : (unknowns : ℕ) (arities : List ℕ) (equations : ℕ) (words : List ℕ) (steps depth size space room : ℕ) → Reply
-run-reply unknowns arities equations words steps depth size space room = of-ran (result (told unknowns arities equations words steps depth size space room))
+  pub write-replied : {w written : Written} {text buffer buffer-after : List ℕ} → written ≡ w → buffer-after ≡ held written text buffer
+      → Replied (of-written written) back numbers numbers-after place place-after → WriteReplied w text back numbers numbers-after place place-after buffer buffer-after
+  write-replied e g h = record { reply = rw e at h; holds = rw e at g }
+
+  pub run-replied : {t : Told} {ran : Ran} {answers answers-after room room-after : List ℕ} → RunGives t ran answers answers-after room room-after
+      → Replied (of-ran ran) back numbers numbers-after place place-after → RunReplied t back numbers numbers-after place place-after answers answers-after room room-after
+  run-replied g h = record { reply = rw (g .told-back) at h; gives = rw (g .told-back) at g }
 
 -- ---- the words of a run's room
 

@@ -1,8 +1,8 @@
 -- What a C caller is told: a status, and the later value of each out number. Where a call is granted its numbers are written in the order of the
 -- parameters and the place is left alone; a refusal writes the place and leaves the others alone.
 use Prim.Native.Nat.{ℕ}
+use mathlib.Core.Path.{_≡_}
 use mathlib.Core.List.{List, [], _∷_}
-use lib.ListN.{getD}
 use Rattle.terms.specs.Refusal.{number}
 use Rattle.terms.specs.declared.refusal.Refusal.{Refusal}
 use Rattle.search.specs.Ends.{end-number}
@@ -26,15 +26,21 @@ abbrev pub status : Reply → ℕ
 status (granted numbers) = 0
 status (refused refusal) = number (refusal .cause)
 
--- the i-th out number, which was n
-abbrev pub out : (i : ℕ) → Reply → (n : ℕ) → ℕ
-out i (granted numbers) n = getD numbers i n
-out i (refused refusal) n = n
+-- the out numbers, which were these
+abbrev pub outs : Reply → List ℕ → List ℕ
+outs (granted numbers) before = numbers
+outs (refused refusal) before = before
 
 -- the place, which was n
 abbrev pub place-out : Reply → (n : ℕ) → ℕ
 place-out (granted numbers) n = n
 place-out (refused refusal) n = refusal .place
+
+-- what a call gives back where this is replied, and its out numbers and its place before and after it
+pub record Replied (reply : Reply) (back : ℕ) (numbers numbers-after : List ℕ) (place place-after : ℕ) : Type 0 where
+  pub told-back : back ≡ status reply
+  pub numbers-told : numbers-after ≡ outs reply numbers
+  pub place-told : place-after ≡ place-out reply place
 
 -- ---- the entries' answers
 

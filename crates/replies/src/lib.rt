@@ -1,10 +1,11 @@
 // What an answer is told as to C: which status and which out numbers it gives. A granted call has status 0, its out numbers are written, and the place is
 // left alone; a refused one has the refusal's number for status, and the place alone is written. `mensorique_c` has the calls.
 //
-// In specs/, `Replies` has the definitions, which a client's contracts cite.
+// In specs/, `Replies` has the definitions and `Calls` what a call that lends buffers gives, which a client's contracts cite.
 ghost use mathlib.Core.Path.{_≡_};
+ghost use mathlib.Core.List.{[], _∷_};
 ghost use Rattle.terms.specs.Refusal.{number};
-ghost use Rattle.replies.specs.Replies.{status, out, place-out, of-question, of-written, of-equality, of-solving, of-ran};
+ghost use Rattle.replies.specs.Replies.{Replied, of-question, of-written, of-equality, of-solving, of-ran};
 use question_reader::whole::Question;
 use same::Equality;
 use same::Solving;
@@ -32,12 +33,9 @@ pub fn tell_question(
     used: &mut usize,
     place: &mut usize,
 ) -> u32
-    ensures status { λ r. ⌜ r ≡ status (of-question question) ⌝ }
-    ensures unknowns { λ _. ⌜ now (unknowns .exit) ≡ out 0 (of-question question) (now (unknowns .entry)) ⌝ }
-    ensures functors { λ _. ⌜ now (functors .exit) ≡ out 1 (of-question question) (now (functors .entry)) ⌝ }
-    ensures equations { λ _. ⌜ now (equations .exit) ≡ out 2 (of-question question) (now (equations .entry)) ⌝ }
-    ensures used { λ _. ⌜ now (used .exit) ≡ out 3 (of-question question) (now (used .entry)) ⌝ }
-    ensures place { λ _. ⌜ now (place .exit) ≡ place-out (of-question question) (now (place .entry)) ⌝ }
+    ensures { λ r. ⌜ Replied (of-question question) r
+        (now (unknowns .entry) ∷ now (functors .entry) ∷ now (equations .entry) ∷ now (used .entry) ∷ []) (now (unknowns .exit) ∷ now (functors .exit) ∷ now (equations .exit) ∷ now (used .exit) ∷ [])
+        (now (place .entry)) (now (place .exit)) ⌝ }
 {
     match question {
         Question::Read(n, k, e, m) => {
@@ -52,9 +50,7 @@ pub fn tell_question(
 }
 
 pub fn tell_written(written: Written, length: &mut usize, place: &mut usize) -> u32
-    ensures status { λ r. ⌜ r ≡ status (of-written written) ⌝ }
-    ensures length { λ _. ⌜ now (length .exit) ≡ out 0 (of-written written) (now (length .entry)) ⌝ }
-    ensures place { λ _. ⌜ now (place .exit) ≡ place-out (of-written written) (now (place .entry)) ⌝ }
+    ensures { λ r. ⌜ Replied (of-written written) r (now (length .entry) ∷ []) (now (length .exit) ∷ []) (now (place .entry)) (now (place .exit)) ⌝ }
 {
     match written {
         Written::Length(n) => {
@@ -66,9 +62,7 @@ pub fn tell_written(written: Written, length: &mut usize, place: &mut usize) -> 
 }
 
 pub fn tell_equality(equality: Equality, equal: &mut u32, place: &mut usize) -> u32
-    ensures status { λ r. ⌜ r ≡ status (of-equality equality) ⌝ }
-    ensures equal { λ _. ⌜ now (equal .exit) ≡ out 0 (of-equality equality) (now (equal .entry)) ⌝ }
-    ensures place { λ _. ⌜ now (place .exit) ≡ place-out (of-equality equality) (now (place .entry)) ⌝ }
+    ensures { λ r. ⌜ Replied (of-equality equality) r (now (equal .entry) ∷ []) (now (equal .exit) ∷ []) (now (place .entry)) (now (place .exit)) ⌝ }
 {
     match equality {
         Equality::Equal => {
@@ -84,9 +78,7 @@ pub fn tell_equality(equality: Equality, equal: &mut u32, place: &mut usize) -> 
 }
 
 pub fn tell_solving(solving: Solving, solves: &mut u32, place: &mut usize) -> u32
-    ensures status { λ r. ⌜ r ≡ status (of-solving solving) ⌝ }
-    ensures solves { λ _. ⌜ now (solves .exit) ≡ out 0 (of-solving solving) (now (solves .entry)) ⌝ }
-    ensures place { λ _. ⌜ now (place .exit) ≡ place-out (of-solving solving) (now (place .entry)) ⌝ }
+    ensures { λ r. ⌜ Replied (of-solving solving) r (now (solves .entry) ∷ []) (now (solves .exit) ∷ []) (now (place .entry)) (now (place .exit)) ⌝ }
 {
     match solving {
         Solving::Yes => {
@@ -109,12 +101,9 @@ pub fn tell_ran(
     used: &mut usize,
     place: &mut usize,
 ) -> u32
-    ensures status { λ r. ⌜ r ≡ status (of-ran ran) ⌝ }
-    ensures end { λ _. ⌜ now (end .exit) ≡ out 0 (of-ran ran) (now (end .entry)) ⌝ }
-    ensures visited { λ _. ⌜ now (visited .exit) ≡ out 1 (of-ran ran) (now (visited .entry)) ⌝ }
-    ensures count { λ _. ⌜ now (count .exit) ≡ out 2 (of-ran ran) (now (count .entry)) ⌝ }
-    ensures used { λ _. ⌜ now (used .exit) ≡ out 3 (of-ran ran) (now (used .entry)) ⌝ }
-    ensures place { λ _. ⌜ now (place .exit) ≡ place-out (of-ran ran) (now (place .entry)) ⌝ }
+    ensures { λ r. ⌜ Replied (of-ran ran) r
+        (now (end .entry) ∷ now (visited .entry) ∷ now (count .entry) ∷ now (used .entry) ∷ []) (now (end .exit) ∷ now (visited .exit) ∷ now (count .exit) ∷ now (used .exit) ∷ [])
+        (now (place .entry)) (now (place .exit)) ⌝ }
 {
     match ran {
         Ran::Ended(ending) => {

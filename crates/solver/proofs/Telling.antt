@@ -6,7 +6,7 @@ use native.Mathlib.Omega.{arith}
 use lib.Dec.{ltb}
 use lib.ListN.{length}
 use borrow.Author.Tests.{le-ltb, lt-ltb, ltb-false}
-use Rattle.room.specs.Room.{put, put-nil}
+use Rattle.room.specs.Room.{put-nil}
 use Rattle.room.specs.Replaced.{by-test}
 use Rattle.terms.specs.Bounds.{edition-one, edition-one-proper}
 use Rattle.checks.specs.Check.{check-question, after-check}
@@ -23,45 +23,41 @@ use Rattle.solver.specs.declared.Ran.{Ran}
 use Rattle.solver.specs.declared.Ran.the-variants.{Ended, Refused}
 use Rattle.visits.specs.declared.node.Ending.{Ending}
 use Rattle.visits.specs.Loans.{needed, ending}
-use Rattle.solver.specs.Result.{Told, refuses, gives, told-within, told, result, words-told}
+use Rattle.solver.specs.Result.{Told, refuses, gives, told-within, told, result, words-told, RunGives}
 use Rattle.search_loop.specs.Running.{Ends}
 use Rattle.search_loop.proofs.Standing.{needed-small}
 use Rattle.solver.specs.Start.{Asking, Bounded, outcome, whole-run}
 
 -- ---- what comes back
 
--- the answer, the answer words and the room
-abbrev pub Tells : Told → (a l : List ℕ) → Ran → (answers room : List ℕ) → Type 0
-Tells t a l r answers room = (r ≡ result t) × ((answers ≡ put a 0 (words-told t)) × ((why : Refusal) → t ≡ refuses why → room ≡ l))
-
-pub refused-so : {t : Told} {why : Refusal} (a l : List ℕ) → t ≡ refuses why → Tells t a l (Refused why) a l
+refused-so : {t : Told} {why : Refusal} (a l : List ℕ) → t ≡ refuses why → RunGives t (Refused why) a a l l
 unfolding result words-told
-refused-so a l e = rw e (refl, (sym (put-nil a 0), λ why f. refl))
-
-module _ (n : ℕ) (arities ws : List ℕ) (limits : Limits) (a : List ℕ) where
-  pub ended-so : {t : Told} {r : Ending} {answers : List ℕ} (l room : List ℕ) → t ≡ gives (outcome n arities ws limits (length a)) → Ends (whole-run n arities ws limits a) r answers
-      → Tells t a l (Ended r) answers room
-  unfolding result words-told whole-run
-  ended-so l room e E = rw e (ap Ended (sym (E .ending)), (sym (E .answers), λ why f. let z : _≡_ {A = ℕ} 0 1 = cc in absurd (omega arith)))
+refused-so a l e = rw e (record { told-back = refl; begins = sym (put-nil a 0); left-alone = λ why f. refl })
 
 -- ---- the question, then the room
 
-module _ (n : ℕ) (arities : List ℕ) (e : ℕ) (ws : List ℕ) (space room : ℕ) (limits : Limits) where
-  abbrev pub told-here : Told
-  told-here = told-within n arities e ws space room (Within limits)
+module _ (n : ℕ) (arities : List ℕ) (e : ℕ) (ws : List ℕ) (limits : Limits) (a l : List ℕ) where
+  abbrev told-here : Told
+  told-here = told-within n arities e ws (length a) (length l) (Within limits)
 
-  pub faulty : {why : Refusal} → check-question edition-one n arities e ws ≡ Faulty why → told-here ≡ refuses why
+  pub faulty : {why : Refusal} → check-question edition-one n arities e ws ≡ Faulty why → RunGives told-here (Refused why) a a l l
   unfolding told-within after-check
-  faulty f = rw f
+  faulty f = refused-so a l (rw f)
 
   module _ (fine : check-question edition-one n arities e ws ≡ Fine) where
-    pub small-room : room < needed limits → told-here ≡ refuses (record { cause = Buffer; place = needed limits })
+    pub small-room : length l < needed limits → RunGives told-here (Refused (record { cause = Buffer; place = needed limits })) a a l l
     unfolding told-within after-check
-    small-room h = rw (fine, lt-ltb room (needed limits) h)
+    small-room h = refused-so a l (rw (fine, lt-ltb (length l) (needed limits) h))
 
-    pub fine-run : needed limits ≤ room → told-here ≡ gives (outcome n arities ws limits space)
+    is-run : needed limits ≤ length l → told-here ≡ gives (outcome n arities ws limits (length a))
     unfolding told-within after-check
-    fine-run h = rw (fine, le-ltb room (needed limits) h)
+    is-run h = rw (fine, le-ltb (length l) (needed limits) h)
+
+    pub fine-run : {r : Ending} {answers room : List ℕ} → needed limits ≤ length l → Ends (whole-run n arities ws limits a) r answers → RunGives told-here (Ended r) a answers l room
+    unfolding result words-told whole-run
+    fine-run h E =
+        rw (is-run h)
+        (record { told-back = ap Ended (sym (E .ending)); begins = sym (E .answers); left-alone = λ why f. let z : _≡_ {A = ℕ} 0 1 = cc in absurd (omega arith) })
 
 pub asking : {n : ℕ} {arities : List ℕ} (e : ℕ) {ws : List ℕ} {limits : Limits} {l : List ℕ} → Bounded limits → check-question edition-one n arities e ws ≡ Fine → length l ≡ needed limits
     → Asking n arities ws limits l
@@ -98,11 +94,13 @@ module _ (steps depth size : ℕ) where
       never : {P : Type 0} → _≡_ {A = Lent} Above (Within limits) → P
       never e = let z : _≡_ {A = ℕ} 0 1 = cc in absurd (omega arith)
 
-  module _ (n : ℕ) (arities : List ℕ) (e : ℕ) (ws : List ℕ) (space room : ℕ) where
-    pub told-so : {x : Lent} → lent steps depth size ≡ x → told n arities e ws steps depth size space room ≡ told-within n arities e ws space room x
+  module _ (n : ℕ) (arities : List ℕ) (e : ℕ) (ws a l : List ℕ) where
+    pub within-limits : {limits : Limits} {r : Ran} {answers room : List ℕ} → lent steps depth size ≡ Within limits
+        → RunGives (told-within n arities e ws (length a) (length l) (Within limits)) r a answers l room
+        → RunGives (told n arities e ws steps depth size (length a) (length l)) r a answers l room
     unfolding told
-    told-so f = ap (told-within n arities e ws space room) f
+    within-limits f g = rw f g
 
-    pub above-limits : lent steps depth size ≡ Above → told n arities e ws steps depth size space room ≡ refuses (record { cause = Limit; place = 0 })
-    unfolding told-within
-    above-limits f = told-so f
+    pub above-limits : lent steps depth size ≡ Above → RunGives (told n arities e ws steps depth size (length a) (length l)) (Refused (record { cause = Limit; place = 0 })) a a l l
+    unfolding told told-within
+    above-limits f = refused-so a l (rw f)

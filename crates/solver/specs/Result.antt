@@ -1,8 +1,10 @@
 -- What a run gives, and what a call of it gives: limits are tested, then the question, then the room; then the run is that of `search`.
 use Prim.Native.Nat.{ℕ}
+use mathlib.Core.Path.{_≡_}
 use mathlib.Core.Bool.{cond}
 use mathlib.Core.List.{List, []}
 use lib.Dec.{ltb}
+use Rattle.room.specs.Room.{put}
 use Rattle.terms.specs.Bounds.{edition-one}
 use Rattle.terms.specs.Answers.{listed}
 use Rattle.checks.specs.Check.{check-question, after-check}
@@ -40,3 +42,10 @@ result (gives o) = Ended (ending o)
 unfoldable pub words-told : Told → List ℕ
 words-told (refuses r) = []
 words-told (gives o) = listed (o .answers)
+
+-- what a call gives back where t is told, and what the answers' buffer and the room hold before and after it. Of the room nothing more is said: document 01 lists
+-- its later contents as an exception
+pub record RunGives (t : Told) (back : Ran) (answers answers-after room room-after : List ℕ) : Type 0 where
+  pub told-back : back ≡ result t
+  pub begins : answers-after ≡ put answers 0 (words-told t)
+  pub left-alone : (why : Refusal) → t ≡ refuses why → room-after ≡ room

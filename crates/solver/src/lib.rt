@@ -1,12 +1,9 @@
 // A run: limits, question and room are tested, the root's row is written, and the search goes on from it.
 //
 // In specs/, `Result` says what a run gives for any input; `Start` is where the search starts.
-ghost use mathlib.Core.Path.{_≡_};
 ghost use lib.ListN.{length};
-ghost use Rattle.room.specs.Room.{put};
-ghost use Rattle.terms.specs.declared.refusal.Refusal.{Refusal as Why};
 ghost use Rattle.search.specs.declared.limits.Lent.the-variants as lents;
-ghost use Rattle.solver.specs.Result.{told, told-within, refuses, result, words-told};
+ghost use Rattle.solver.specs.Result.{RunGives, told, told-within};
 ghost use Rattle.search_loop.specs.Running.{Given, Ends};
 ghost use Rattle.solver.specs.Start.{Asking, Bounded, Rooted, whole-run};
 
@@ -101,9 +98,7 @@ fn run_within(
     room: &mut [u16],
 ) -> Ran
     requires { ⌜ Bounded limits ⌝ }
-    ensures { λ r. ⌜ r ≡ result (told-within unknowns (now (arities .entry)) equations (now (words .entry)) (length (now (answers .entry))) (length (now (room .entry))) (lents.Within limits)) ⌝ }
-    ensures { λ _. ⌜ now (answers .exit) ≡ put (now (answers .entry)) 0 (words-told (told-within unknowns (now (arities .entry)) equations (now (words .entry)) (length (now (answers .entry))) (length (now (room .entry))) (lents.Within limits))) ⌝ }
-    ensures { λ _. ⌜ ((why : Why) → told-within unknowns (now (arities .entry)) equations (now (words .entry)) (length (now (answers .entry))) (length (now (room .entry))) (lents.Within limits) ≡ refuses why → now (room .exit) ≡ now (room .entry)) ⌝ }
+    ensures { λ r. ⌜ RunGives (told-within unknowns (now (arities .entry)) equations (now (words .entry)) (length (now (answers .entry))) (length (now (room .entry))) (lents.Within limits)) r (now (answers .entry)) (now (answers .exit)) (now (room .entry)) (now (room .exit)) ⌝ }
 {
     match check_question(unknowns, arities, equations, words) {
         Checked::Refused(refusal) => Ran::Refused(refusal),
@@ -140,9 +135,7 @@ pub fn run(
     answers: &mut [u16],
     room: &mut [u16],
 ) -> Ran
-    ensures { λ r. ⌜ r ≡ result (told unknowns (now (arities .entry)) equations (now (words .entry)) steps depth size (length (now (answers .entry))) (length (now (room .entry)))) ⌝ }
-    ensures { λ _. ⌜ now (answers .exit) ≡ put (now (answers .entry)) 0 (words-told (told unknowns (now (arities .entry)) equations (now (words .entry)) steps depth size (length (now (answers .entry))) (length (now (room .entry))))) ⌝ }
-    ensures { λ _. ⌜ ((why : Why) → told unknowns (now (arities .entry)) equations (now (words .entry)) steps depth size (length (now (answers .entry))) (length (now (room .entry))) ≡ refuses why → now (room .exit) ≡ now (room .entry)) ⌝ }
+    ensures { λ r. ⌜ RunGives (told unknowns (now (arities .entry)) equations (now (words .entry)) steps depth size (length (now (answers .entry))) (length (now (room .entry)))) r (now (answers .entry)) (now (answers .exit)) (now (room .entry)) (now (room .exit)) ⌝ }
 {
     match Limits::new(steps, depth, size) {
         Lent::Within(limits) => run_within(

@@ -1,5 +1,6 @@
 -- `mensorique_c::mensorique_read_question`: the question is read, and the answer told.
 use borrow.Author.Needs.{needs}
+use Rattle.replies.specs.Calls.{read-replied}
 use Rattle.mensorique_c.proofs.mensorique_read_question.Statement.{statement}
 use Rattle.mensorique_c.proofs.mensorique_read_question.Tie as tie
 
@@ -16,7 +17,7 @@ same-length-2 : tie.Need-same-length-2
 same-length-2 c = search needs
 
 returns : tie.Need-returns
-returns c = let read = c .before .before .before .before .before .before .before .before .before .before .read-question .ensures in rw (← (read .0)) (c .tell-question .ensures .0, (read .1 .0, (read .1 .1, c .tell-question .ensures .1)))
+returns c = read-replied (c .before .before .before .before .before .before .before .before .before .before .read-question .ensures) (c .tell-question .ensures)
 
 pub mensorique-read-question-spec : {M : Type 1} → statement M
 mensorique-read-question-spec =

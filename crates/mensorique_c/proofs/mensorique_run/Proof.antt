@@ -1,5 +1,6 @@
 -- `mensorique_c::mensorique_run`: the question is run, and the answer told.
 use borrow.Author.Needs.{needs}
+use Rattle.replies.specs.Calls.{run-replied}
 use Rattle.mensorique_c.proofs.mensorique_run.Statement.{statement}
 use Rattle.mensorique_c.proofs.mensorique_run.Tie as tie
 
@@ -16,7 +17,7 @@ same-length-2 : tie.Need-same-length-2
 same-length-2 c = search needs
 
 returns : tie.Need-returns
-returns c = let ran = c .before .before .before .before .before .before .before .before .before .before .run .ensures in rw (← (ran .0)) (c .tell-ran .ensures .0, (ran .1 .0, (ran .1 .1, c .tell-ran .ensures .1)))
+returns c = run-replied (c .before .before .before .before .before .before .before .before .before .before .run .ensures) (c .tell-ran .ensures)
 
 pub mensorique-run-spec : {M : Type 1} → statement M
 mensorique-run-spec =

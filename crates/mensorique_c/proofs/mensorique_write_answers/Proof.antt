@@ -1,5 +1,6 @@
 -- `mensorique_c::mensorique_write_answers`: the list is written, and the answer told.
 use borrow.Author.Needs.{needs}
+use Rattle.replies.specs.Calls.{write-replied}
 use Rattle.mensorique_c.proofs.mensorique_write_answers.Statement.{statement}
 use Rattle.mensorique_c.proofs.mensorique_write_answers.Tie as tie
 
@@ -13,7 +14,7 @@ same-length : tie.Need-same-length
 same-length c = search needs
 
 returns : tie.Need-returns
-returns c = rw (← (c .before .before .before .before .before .write-answers .ensures .0)) (c .tell-written .ensures .0, (c .before .before .before .before .before .write-answers .ensures .1, c .tell-written .ensures .1))
+returns c = let written = c .before .before .before .before .before .write-answers .ensures in write-replied (written .0) (written .1) (c .tell-written .ensures)
 
 pub mensorique-write-answers-spec : {M : Type 1} → statement M
 mensorique-write-answers-spec =

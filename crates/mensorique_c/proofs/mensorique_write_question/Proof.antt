@@ -1,5 +1,6 @@
 -- `mensorique_c::mensorique_write_question`: the question is written, and the answer told.
 use borrow.Author.Needs.{needs}
+use Rattle.replies.specs.Calls.{write-replied}
 use Rattle.mensorique_c.proofs.mensorique_write_question.Statement.{statement}
 use Rattle.mensorique_c.proofs.mensorique_write_question.Tie as tie
 
@@ -13,7 +14,7 @@ same-length : tie.Need-same-length
 same-length c = search needs
 
 returns : tie.Need-returns
-returns c = rw (← (c .before .before .before .before .before .write-question .ensures .0)) (c .tell-written .ensures .0, (c .before .before .before .before .before .write-question .ensures .1, c .tell-written .ensures .1))
+returns c = let written = c .before .before .before .before .before .write-question .ensures in write-replied (written .0) (written .1) (c .tell-written .ensures)
 
 pub mensorique-write-question-spec : {M : Type 1} → statement M
 mensorique-write-question-spec =

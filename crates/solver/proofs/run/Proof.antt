@@ -1,7 +1,6 @@
 -- `solver::run`: the limits are within their bounds, or refused.
 use mathlib.Core.Path.{sym, _∙_}
-use lib.ListN.{length}
-use Rattle.solver.proofs.Telling.{within-bounds, told-so, above-limits, refused-so}
+use Rattle.solver.proofs.Telling.{within-bounds, within-limits, above-limits}
 use borrow.Author.Needs.{needs}
 use Rattle.solver.proofs.run.Statement.{statement}
 use Rattle.solver.proofs.run.Tie as tie
@@ -13,7 +12,9 @@ enum-known-limits : tie.Need-enum-known-limits
 enum-known-limits c = search needs
 
 run-within-requires : tie.Need-run-within-requires
-run-within-requires c κs = within-bounds (c .before .before .before .before .before .before .before .before .before .before .args .steps) (c .before .before .before .before .before .before .before .before .before .before .args .depth) (c .before .before .before .before .before .before .before .before .before .before .args .size) (sym (c .before .before .before .before .before .new .ensures) ∙ c .before .before .before .limits .given .1)
+run-within-requires c κs =
+    let given = c .before .before .before .before .before .before .before .before .before .before .args in
+    within-bounds (given .steps) (given .depth) (given .size) (sym (c .before .before .before .before .before .new .ensures) ∙ c .before .before .before .limits .given .1)
 
 enum-told : tie.Need-enum-told
 enum-told c = search needs
@@ -25,10 +26,10 @@ same-length-2 : tie.Need-same-length-2
 same-length-2 c = search needs
 
 returns : tie.Need-returns
-returns c = rw (told-so (c .before .before .before .before .before .before .before .before .before .before .before .before .before .before .before .args .steps) (c .before .before .before .before .before .before .before .before .before .before .before .before .before .before .before .args .depth) (c .before .before .before .before .before .before .before .before .before .before .before .before .before .before .before .args .size) (c .before .before .before .before .before .before .before .before .before .before .before .before .before .before .before .args .unknowns) (c .before .before .before .before .before .before .before .before .before .before .before .before .before .before .before .args .arities .now) (c .before .before .before .before .before .before .before .before .before .before .before .before .before .before .before .args .equations) (c .before .before .before .before .before .before .before .before .before .before .before .before .before .before .before .args .words .now) (length (c .before .before .before .before .before .before .before .before .before .before .before .before .before .before .before .args .answers .now)) (length (c .before .before .before .before .before .before .before .before .before .before .before .before .before .before .before .args .room .now)) (sym (c .before .before .before .before .before .before .before .before .before .before .new .ensures) ∙ c .before .before .before .before .before .before .before .before .limits .given .1)) (c .before .before .before .before .run-within .ensures)
+returns c = within-limits _ _ _ _ _ _ _ _ _ (sym (c .before .before .before .before .before .before .before .before .before .before .new .ensures) ∙ c .before .before .before .before .before .before .before .before .limits .given .1) (c .before .before .before .before .run-within .ensures)
 
 returns-2 : tie.Need-returns-2
-returns-2 c = refused-so (c .before .before .before .before .before .before .before .args .answers .now) (c .before .before .before .before .before .before .before .args .room .now) (above-limits (c .before .before .before .before .before .before .before .args .steps) (c .before .before .before .before .before .before .before .args .depth) (c .before .before .before .before .before .before .before .args .size) (c .before .before .before .before .before .before .before .args .unknowns) (c .before .before .before .before .before .before .before .args .arities .now) (c .before .before .before .before .before .before .before .args .equations) (c .before .before .before .before .before .before .before .args .words .now) (length (c .before .before .before .before .before .before .before .args .answers .now)) (length (c .before .before .before .before .before .before .before .args .room .now)) (sym (c .before .before .new .ensures) ∙ c .enum-told .given .1))
+returns-2 c = above-limits _ _ _ _ _ _ _ _ _ (sym (c .before .before .new .ensures) ∙ c .enum-told .given .1)
 
 pub run-spec : {M : Type 1} → statement M
 run-spec =

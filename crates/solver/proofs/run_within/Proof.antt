@@ -1,11 +1,10 @@
 -- `solver::run_within`: `Telling` says which refusal comes first, and what a run that is not refused tells.
 use mathlib.Core.Path.{sym, _∙_}
 use native.Mathlib.Omega.{arith}
-use lib.ListN.{length}
 use lib.Seq.{length-take-le}
 use Rattle.visits.specs.Loans.{needed}
 use Rattle.search_loop.proofs.Standing.{needed-small}
-use Rattle.solver.proofs.Telling.{refused-so, ended-so, faulty, small-room, fine-run, asking}
+use Rattle.solver.proofs.Telling.{faulty, small-room, fine-run, asking}
 use borrow.Author.Needs.{needs}
 use Rattle.solver.proofs.run_within.Statement.{statement}
 use Rattle.solver.proofs.run_within.Tie as tie
@@ -27,25 +26,25 @@ add-needed-2 c = search needs
 
 mul-needed : tie.Need-mul-needed
 unfolding needed
-mul-needed c = omega (arith, needed-small (c .before .before .before .before .before .before .before .before .before .args .limits) (c .before .before .before .before .before .before .before .before .before .pre .depth) (c .before .before .before .before .before .before .before .before .before .pre .size))
+mul-needed c = let start = c .before .before .before .before .before .before .before .before .before in omega (arith, needed-small (start .args .limits) (start .pre .depth) (start .pre .size))
 
 returns : tie.Need-returns
 unfolding needed
-returns c = refused-so (c .before .before .before .before .before .before .before .before .before .before .args .answers .now) (c .before .before .before .before .before .before .before .before .before .before .args .room .now) (small-room (c .before .before .before .before .before .before .before .before .before .before .args .unknowns) (c .before .before .before .before .before .before .before .before .before .before .args .arities .now) (c .before .before .before .before .before .before .before .before .before .before .args .equations) (c .before .before .before .before .before .before .before .before .before .before .args .words .now) (length (c .before .before .before .before .before .before .before .before .before .before .args .answers .now)) (length (c .before .before .before .before .before .before .before .before .before .before .args .room .now)) (c .before .before .before .before .before .before .before .before .before .before .args .limits) (sym (c .before .before .before .before .before .check-question .ensures) ∙ c .before .before .before .enum-told .given .1) (c .if1 .taken))
+returns c = small-room _ _ _ _ _ _ _ (sym (c .before .before .before .before .before .check-question .ensures) ∙ c .before .before .before .enum-told .given .1) (c .if1 .taken)
 
 slice-relend-prefix-start : tie.Need-slice-relend-prefix-start
 slice-relend-prefix-start c = search needs
 
 slice-aggregate-start : tie.Need-slice-aggregate-start
 unfolding needed
-slice-aggregate-start c = sym (length-take-le (needed (c .before .before .before .before .before .before .before .before .before .before .before .before .args .limits)) (c .before .before .before .before .before .before .before .before .before .before .before .before .args .room .now) (c .before .before .if1 .left))
+slice-aggregate-start c = sym (length-take-le _ _ (c .before .before .if1 .left))
 
 start-requires : tie.Need-start-requires
 unfolding needed
-start-requires c κs = asking (c .before .before .before .before .before .before .before .before .before .before .before .before .args .equations) (c .before .before .before .before .before .before .before .before .before .before .before .before .pre) (sym (c .before .before .before .before .before .before .before .check-question .ensures) ∙ c .before .before .before .before .before .enum-told .given .1) (length-take-le (needed (c .before .before .before .before .before .before .before .before .before .before .before .before .args .limits)) (c .before .before .before .before .before .before .before .before .before .before .before .before .args .room .now) (c .before .before .if1 .left))
+start-requires c κs = asking _ (c .before .before .before .before .before .before .before .before .before .before .before .before .pre) (sym (c .before .before .before .before .before .before .before .check-question .ensures) ∙ c .before .before .before .before .before .enum-told .given .1) (length-take-le _ _ (c .before .before .if1 .left))
 
 returns-2 : tie.Need-returns-2
-returns-2 c = refused-so (c .before .before .before .before .before .before .before .before .args .answers .now) (c .before .before .before .before .before .before .before .before .args .room .now) (faulty (c .before .before .before .before .before .before .before .before .args .unknowns) (c .before .before .before .before .before .before .before .before .args .arities .now) (c .before .before .before .before .before .before .before .before .args .equations) (c .before .before .before .before .before .before .before .before .args .words .now) (length (c .before .before .before .before .before .before .before .before .args .answers .now)) (length (c .before .before .before .before .before .before .before .before .args .room .now)) (c .before .before .before .before .before .before .before .before .args .limits) (sym (c .before .before .before .check-question .ensures) ∙ c .before .refusal .given .1))
+returns-2 c = faulty _ _ _ _ _ _ _ (sym (c .before .before .before .check-question .ensures) ∙ c .before .refusal .given .1)
 
 same-length : tie.Need-same-length
 same-length c = search needs
@@ -55,7 +54,7 @@ same-length-2 c = search needs
 
 returns-3 : tie.Need-returns-3
 unfolding needed
-returns-3 c = ended-so (c .before .before .before .before .before .before .before .before .before .before .before .before .before .before .before .before .before .args .unknowns) (c .before .before .before .before .before .before .before .before .before .before .before .before .before .before .before .before .before .args .arities .now) (c .before .before .before .before .before .before .before .before .before .before .before .before .before .before .before .before .before .args .words .now) (c .before .before .before .before .before .before .before .before .before .before .before .before .before .before .before .before .before .args .limits) (c .before .before .before .before .before .before .before .before .before .before .before .before .before .before .before .before .before .args .answers .now) (c .before .before .before .before .before .before .before .before .before .before .before .before .before .before .before .before .before .args .room .now) _ (fine-run (c .before .before .before .before .before .before .before .before .before .before .before .before .before .before .before .before .before .args .unknowns) (c .before .before .before .before .before .before .before .before .before .before .before .before .before .before .before .before .before .args .arities .now) (c .before .before .before .before .before .before .before .before .before .before .before .before .before .before .before .before .before .args .equations) (c .before .before .before .before .before .before .before .before .before .before .before .before .before .before .before .before .before .args .words .now) (length (c .before .before .before .before .before .before .before .before .before .before .before .before .before .before .before .before .before .args .answers .now)) (length (c .before .before .before .before .before .before .before .before .before .before .before .before .before .before .before .before .before .args .room .now)) (c .before .before .before .before .before .before .before .before .before .before .before .before .before .before .before .before .before .args .limits) (sym (c .before .before .before .before .before .before .before .before .before .before .before .before .check-question .ensures) ∙ c .before .before .before .before .before .before .before .before .before .before .enum-told .given .1) (c .before .before .before .before .before .before .before .if1 .left)) (c .before .before .before .before .start .ensures)
+returns-3 c = fine-run _ _ _ _ _ _ _ (sym (c .before .before .before .before .before .before .before .before .before .before .before .before .check-question .ensures) ∙ c .before .before .before .before .before .before .before .before .before .before .enum-told .given .1) (c .before .before .before .before .before .before .before .if1 .left) (c .before .before .before .before .start .ensures)
 
 pub run-within-spec : {M : Type 1} → statement M
 run-within-spec =

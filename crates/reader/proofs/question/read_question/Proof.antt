@@ -68,7 +68,7 @@ returns-3 c =
     let u = i .before .before .before in
     let w = u .before .before .before .before in
     let o = all-laid _ _ _ _ _ (w .read-whole .ensures .0) (w .read-whole .kept .1 .0) (w .read-whole .kept .1 .1 .0) (w .read-whole .ensures .1) _ _ _ _ (u .unknowns .given .1) (i .before .if1 .left) (i .if2 .left) in
-    (o .0, (x .lay-arities .ensures ∙ o .1 .0, y .lay-words .ensures ∙ o .1 .1))
+    record { told-back = o .told-back; arities-laid = x .lay-arities .ensures ∙ o .arities-laid; words-laid = y .lay-words .ensures ∙ o .words-laid }
 
 returns-4 : tie.Need-returns-4
 returns-4 c =
