@@ -1,25 +1,39 @@
-//! Finds the archive `libmensorique_c.a`: in the folder that `MENSORIQUE_LIB_DIR` names, or in the repository's `target/native`. Without it the crate can be
-//! checked (`cargo check`) but not linked.
+//! Finds the archive `libmensorique_c.a`: in the folder that `MENSORIQUE_LIB_DIR` names, or in the repository's `target/native`. A folder that is not named by
+//! its full path counts from this crate's folder, wherever cargo was called. Without the archive the crate can be checked (`cargo check`) but not linked.
 use std::env;
 use std::path::PathBuf;
 
-const NAME: &str = "libmensorique_c.a";
+const VARIABLE: &str = "MENSORIQUE_LIB_DIR";
+const ARCHIVE: &str = "libmensorique_c.a";
 
 fn main() {
-    println!("cargo:rerun-if-env-changed=MENSORIQUE_LIB_DIR");
-    let folder = match env::var_os("MENSORIQUE_LIB_DIR") {
-        Some(named) => PathBuf::from(named),
-        None => PathBuf::from(env!("CARGO_MANIFEST_DIR")).join("../target/native"),
+    println!("cargo:rerun-if-env-changed={VARIABLE}");
+    let own = PathBuf::from(env::var_os("CARGO_MANIFEST_DIR").expect("cargo sets it"));
+    let named = env::var_os(VARIABLE).filter(|named| !named.is_empty());
+    let folder = match &named {
+        Some(named) => own.join(named),
+        None => own.join("../target/native"),
     };
-    let archive = folder.join(NAME);
+    // The shortest way there, where it is there.
+    let folder = folder.canonicalize().unwrap_or(folder);
+    let archive = folder.join(ARCHIVE);
     println!("cargo:rerun-if-changed={}", archive.display());
     if !archive.is_file() {
-        println!(
-            "cargo:warning=there is no {}: make it by `bin/native-staticlib mensorique_c` at the top of the repository, \
-             or name the folder that holds {NAME} in MENSORIQUE_LIB_DIR",
-            archive.display()
-        );
+        let how = match &named {
+            Some(named) if PathBuf::from(named).is_relative() => format!(
+                "{VARIABLE} is {}, which counts from {}: give the full path, or one from there",
+                named.to_string_lossy(),
+                own.display()
+            ),
+            Some(_) => format!("name the folder that holds {ARCHIVE} in {VARIABLE}"),
+            None => format!(
+                "make it by `bin/native-staticlib mensorique_c` at the top of the repository, \
+                 or name the folder that holds {ARCHIVE} in {VARIABLE}"
+            ),
+        };
+        println!("cargo:warning=there is no {}: {how}", archive.display());
     }
+    println!("cargo:rustc-env=MENSORIQUE_ARCHIVE={}", archive.display());
     println!("cargo:rustc-link-search=native={}", folder.display());
     println!("cargo:rustc-link-lib=static=mensorique_c");
 }
