@@ -34,10 +34,12 @@ mod answers;
 pub mod archive;
 mod question;
 mod refusal;
+mod shown;
 mod term;
 pub mod words;
 
 pub use answers::{Answer, Answers, Binding, End, Iter};
 pub use question::{equal, Limits, Question, Room};
 pub use refusal::{Cause, Refusal};
+pub use shown::{Names, Shown};
 pub use term::Term;

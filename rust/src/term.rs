@@ -1,6 +1,5 @@
 //! Terms, and their words.
 use crate::refusal::{Cause, Refusal};
-use std::fmt;
 
 const EMPTY: u16 = 0;
 const WITH: u16 = 1;
@@ -8,6 +7,13 @@ const UNKNOWN: u16 = 1000;
 const FUNCTOR: u16 = 2000;
 
 /// A term. `==` compares how two terms are written; [`crate::equal`] tells whether two ground terms are equal as sets.
+///
+/// ```
+/// use mensorique::Term;
+///
+/// let group = Term::set_with([Term::constant(0), Term::Unknown(1)], Term::Unknown(2));
+/// assert_eq!(group.to_string(), "{f0,x1|x2}");
+/// ```
 #[derive(Clone, Debug, PartialEq, Eq, Hash)]
 pub enum Term {
     /// Unknown i, written `x3`.
@@ -18,6 +24,91 @@ pub enum Term {
     Functor(u16, Vec<Term>),
     /// Members added to a tail, `{t,t|s}`.
     Set(Vec<Term>, Box<Term>),
+}
+
+/// What a term is made of, in prefix order: after member adding come the member and the rest, after a functor its arguments.
+#[derive(Clone, Copy, Debug, PartialEq, Eq)]
+pub(crate) enum Symbol {
+    Empty,
+    With,
+    Unknown(u16),
+    Functor(u16, usize),
+}
+
+impl Symbol {
+    /// How many terms come after it.
+    fn terms(self) -> usize {
+        match self {
+            Symbol::With => 2,
+            Symbol::Functor(_, arguments) => arguments,
+            _ => 0,
+        }
+    }
+
+    /// Its word, where there is one.
+    pub(crate) fn word(self) -> Option<u16> {
+        match self {
+            Symbol::Empty => Some(EMPTY),
+            Symbol::With => Some(WITH),
+            Symbol::Unknown(i) if i < FUNCTOR - UNKNOWN => Some(UNKNOWN + i),
+            Symbol::Unknown(_) => None,
+            Symbol::Functor(k, _) => FUNCTOR.checked_add(k),
+        }
+    }
+
+    /// The symbol of a word that is known to be one.
+    fn of_word(word: u16, arities: &[u8]) -> Symbol {
+        match word {
+            EMPTY => Symbol::Empty,
+            WITH => Symbol::With,
+            UNKNOWN..FUNCTOR => Symbol::Unknown(word - UNKNOWN),
+            _ => {
+                let functor = word - FUNCTOR;
+                Symbol::Functor(functor, arities[usize::from(functor)].into())
+            }
+        }
+    }
+}
+
+/// Goes through a term's symbols without recursion.
+pub(crate) struct Symbols<'a> {
+    /// What is still to be gone through, the last first, and whether it is a member.
+    due: Vec<(&'a Term, bool)>,
+}
+
+impl<'a> Symbols<'a> {
+    /// Puts a term next in line.
+    pub(crate) fn put(&mut self, term: &'a Term) {
+        self.due.push((term, false));
+    }
+}
+
+impl Iterator for Symbols<'_> {
+    type Item = Symbol;
+
+    fn next(&mut self) -> Option<Symbol> {
+        loop {
+            let (term, is_member) = self.due.pop()?;
+            if is_member {
+                self.due.push((term, false));
+                return Some(Symbol::With);
+            }
+            match term {
+                Term::Unknown(i) => return Some(Symbol::Unknown(*i)),
+                Term::Empty => return Some(Symbol::Empty),
+                Term::Functor(k, arguments) => {
+                    let all = arguments.iter().rev();
+                    self.due.extend(all.map(|argument| (argument, false)));
+                    return Some(Symbol::Functor(*k, arguments.len()));
+                }
+                Term::Set(members, tail) => {
+                    self.put(tail);
+                    let all = members.iter().rev();
+                    self.due.extend(all.map(|member| (member, true)));
+                }
+            }
+        }
+    }
 }
 
 impl Term {
@@ -44,6 +135,12 @@ impl Term {
         }
     }
 
+    pub(crate) fn symbols(&self) -> Symbols<'_> {
+        Symbols {
+            due: vec![(self, false)],
+        }
+    }
+
     /// Appends the term's words. Each name must be declared, and each functor must have as many arguments as its arity: words that break this could
     /// form other terms, so no entry could tell.
     pub(crate) fn append(
@@ -52,136 +149,75 @@ impl Term {
         arities: &[u8],
         words: &mut Vec<u16>,
     ) -> Result<(), Refusal> {
-        let mut due = vec![(self, false)];
-        while let Some((term, is_member)) = due.pop() {
-            if is_member {
-                words.push(WITH);
-            }
-            let undeclared = Refusal {
-                cause: Cause::Undeclared,
-                place: words.len(),
-            };
-            match term {
-                Term::Unknown(i) if usize::from(*i) < unknowns && *i < FUNCTOR - UNKNOWN => {
-                    words.push(UNKNOWN + i)
-                }
-                Term::Unknown(_) => return Err(undeclared),
-                Term::Empty => words.push(EMPTY),
-                Term::Functor(k, arguments) => {
-                    let arity = *arities.get(usize::from(*k)).ok_or(undeclared)?;
-                    if usize::from(arity) != arguments.len() {
-                        return Err(Refusal {
-                            cause: Cause::Arguments,
-                            ..undeclared
-                        });
+        for symbol in self.symbols() {
+            let place = words.len();
+            let refused = |cause| Refusal { cause, place };
+            let declared = match symbol {
+                Symbol::Unknown(i) => usize::from(i) < unknowns,
+                Symbol::Functor(k, arguments) => match arities.get(usize::from(k)) {
+                    Some(&arity) if usize::from(arity) != arguments => {
+                        return Err(refused(Cause::Arguments))
                     }
-                    words.push(FUNCTOR.checked_add(*k).ok_or(undeclared)?);
-                    due.extend(arguments.iter().rev().map(|argument| (argument, false)));
-                }
-                Term::Set(members, tail) => {
-                    due.push((tail, false));
-                    due.extend(members.iter().rev().map(|member| (member, true)));
-                }
-            }
+                    arity => arity.is_some(),
+                },
+                _ => true,
+            };
+            let word = symbol.word().filter(|_| declared);
+            let word = word.ok_or_else(|| refused(Cause::Undeclared))?;
+            words.push(word);
         }
         Ok(())
     }
 
     /// Takes the words of one term, which are known to form one, from the front.
     pub(crate) fn take(words: &mut &[u16], arities: &[u8]) -> Term {
-        let (own, after) = words.split_at(end(words, arities));
-        *words = after;
-        // Read from the right, the terms after a word lie ready; a set's members are kept with the last first until it is taken as a whole.
-        let mut ready: Vec<Term> = Vec::new();
-        for &word in own.iter().rev() {
-            let term = match word {
-                EMPTY => Term::Empty,
-                WITH => {
-                    let member = whole(&mut ready);
-                    match ready.pop().expect("a rest") {
-                        Term::Set(mut members, tail) => {
-                            members.push(member);
-                            Term::Set(members, tail)
-                        }
-                        tail => Term::Set(vec![member], Box::new(tail)),
-                    }
-                }
-                UNKNOWN..FUNCTOR => Term::Unknown(word - UNKNOWN),
-                _ => {
-                    let functor = word - FUNCTOR;
-                    let arity = arities[usize::from(functor)];
-                    Term::Functor(functor, (0..arity).map(|_| whole(&mut ready)).collect())
-                }
-            };
-            ready.push(term);
+        let symbol = |&word: &u16| Symbol::of_word(word, arities);
+        let (mut at, mut due) = (0, 1);
+        while due > 0 {
+            due = due - 1 + symbol(&words[at]).terms();
+            at += 1;
         }
-        whole(&mut ready)
+        let (own, after) = words.split_at(at);
+        *words = after;
+        Term::made_of(own.iter().map(symbol))
+    }
+
+    /// The term that has these symbols, which are known to form one.
+    pub(crate) fn made_of(symbols: impl DoubleEndedIterator<Item = Symbol>) -> Term {
+        made(symbols)
     }
 }
 
-/// How many words the first term has.
-fn end(words: &[u16], arities: &[u8]) -> usize {
-    let (mut at, mut due) = (0, 1);
-    while due > 0 {
-        due -= 1;
-        due += match words[at] {
-            WITH => 2,
-            word if word >= FUNCTOR => usize::from(arities[usize::from(word - FUNCTOR)]),
-            _ => 0,
-        };
-        at += 1;
-    }
-    at
-}
-
-/// The term that lies ready, with its members in order.
-fn whole(ready: &mut Vec<Term>) -> Term {
-    let mut term = ready.pop().expect("a term");
-    if let Term::Set(members, _) = &mut term {
-        members.reverse();
-    }
-    term
-}
-
-/// The text form.
-impl fmt::Display for Term {
-    fn fmt(&self, f: &mut fmt::Formatter<'_>) -> fmt::Result {
-        let mut due = vec![Piece::Term(self)];
-        while let Some(piece) = due.pop() {
-            match piece {
-                Piece::Text(text) => f.write_str(text)?,
-                Piece::Term(Term::Unknown(i)) => write!(f, "x{i}")?,
-                Piece::Term(Term::Empty) => f.write_str("{}")?,
-                Piece::Term(Term::Functor(k, arguments)) => {
-                    write!(f, "f{k}")?;
-                    if !arguments.is_empty() {
-                        due.push(Piece::Text(")"));
-                        due.extend(pieces("(", arguments));
+/// The term that has these symbols.
+fn made(symbols: impl DoubleEndedIterator<Item = Symbol>) -> Term {
+    // From the right, the terms after a symbol lie ready, a set's members with the last first until it is taken as a whole.
+    let mut ready: Vec<Term> = Vec::new();
+    let whole = |ready: &mut Vec<Term>| {
+        let mut term = ready.pop().expect("a term");
+        if let Term::Set(members, _) = &mut term {
+            members.reverse();
+        }
+        term
+    };
+    for symbol in symbols.rev() {
+        let term = match symbol {
+            Symbol::Empty => Term::Empty,
+            Symbol::Unknown(i) => Term::Unknown(i),
+            Symbol::Functor(k, arguments) => {
+                Term::Functor(k, (0..arguments).map(|_| whole(&mut ready)).collect())
+            }
+            Symbol::With => {
+                let member = whole(&mut ready);
+                match ready.pop().expect("a rest") {
+                    Term::Set(mut members, tail) => {
+                        members.push(member);
+                        Term::Set(members, tail)
                     }
-                }
-                Piece::Term(Term::Set(members, tail)) => {
-                    due.push(Piece::Text("}"));
-                    if **tail != Term::Empty {
-                        due.extend([Piece::Term(tail), Piece::Text("|")]);
-                    }
-                    due.extend(pieces("{", members));
+                    tail => Term::Set(vec![member], Box::new(tail)),
                 }
             }
-        }
-        Ok(())
+        };
+        ready.push(term);
     }
-}
-
-/// What is still to be printed, the last first.
-enum Piece<'a> {
-    Term(&'a Term),
-    Text(&'static str),
-}
-
-/// The opening bracket and the terms with commas between, the last first.
-fn pieces<'a>(open: &'static str, terms: &'a [Term]) -> impl Iterator<Item = Piece<'a>> {
-    terms.iter().enumerate().rev().flat_map(move |(i, term)| {
-        let before = if i == 0 { open } else { "," };
-        [Piece::Term(term), Piece::Text(before)]
-    })
+    whole(&mut ready)
 }
