@@ -23,16 +23,17 @@ pub enum End {
 }
 
 impl End {
-    pub(crate) fn of_number(number: u32) -> End {
-        match number {
+    /// The end that has a number, if the table has it.
+    pub fn of_number(number: u32) -> Option<End> {
+        Some(match number {
             0 => End::Done,
             20 => End::Steps,
             21 => End::Depth,
             22 => End::Size,
             23 => End::Space,
             24 => End::Names,
-            other => unreachable!("the archive is proved to give an end of the table, not {other}"),
-        }
+            _ => return None,
+        })
     }
 }
 

@@ -24,7 +24,7 @@
 //! # Ok::<(), mensorique::Refusal>(())
 //! ```
 //!
-//! A refused call has a [`Refusal`]: its cause and its place. Calls may run at the same time; each run has its own [`Room`].
+//! A refused call has a [`Refusal`]: its cause, its place, and what was too large. Calls may run at the same time; each run has its own [`Room`].
 //!
 //! A call into the archive needs at most 1 MiB of stack (`docs/GUIDE.md` has what was measured).
 //! Terms are cloned, compared and dropped by recursion; 8,192 levels, more than any run lists, are dropped within the 2 MiB of a spawned thread.
@@ -32,6 +32,8 @@
 
 mod answers;
 pub mod archive;
+mod culprits;
+pub mod most;
 mod question;
 mod refusal;
 mod shown;
@@ -40,6 +42,6 @@ pub mod words;
 
 pub use answers::{Answer, Answers, Binding, End, Iter};
 pub use question::{equal, Limits, Question, Room};
-pub use refusal::{Cause, Refusal};
+pub use refusal::{Cause, Culprit, Refusal, What};
 pub use shown::{Names, Shown};
 pub use term::Term;

@@ -1,12 +1,9 @@
 //! Questions: built term by term or read from text, and asked.
 use crate::answers::{Answers, End};
+use crate::most;
 use crate::refusal::{Cause, Refusal};
 use crate::term::Term;
 use crate::words::{self, Asked};
-
-/// The most functors and words that a question has.
-const FUNCTORS: usize = 256;
-const WORDS: usize = 4096;
 
 /// A question: so many unknowns, the functors' arities, and equations between terms.
 ///
@@ -87,8 +84,8 @@ impl Question {
 
     /// Reads the text form.
     pub fn read(text: impl AsRef<[u8]>) -> Result<Question, Refusal> {
-        let mut arities = vec![0; FUNCTORS];
-        let mut words = vec![0; WORDS];
+        let mut arities = vec![0; most::FUNCTORS];
+        let mut words = vec![0; most::WORDS];
         let read = words::read_question(text.as_ref(), &mut arities, &mut words)?;
         arities.truncate(read.functors);
         words.truncate(read.words);
@@ -136,7 +133,8 @@ impl Question {
         )?;
         listed.truncate(ran.words);
         Ok(Answers {
-            end: End::of_number(ran.end),
+            end: End::of_number(ran.end)
+                .expect("the archive is proved to give an end of the table"),
             visited: ran.visited,
             count: ran.answers as usize,
             words: listed,
@@ -179,6 +177,7 @@ pub(crate) fn written(
         Err(Refusal {
             cause: Cause::Buffer,
             place,
+            ..
         }) => vec![0; place],
         Err(refusal) => return Err(refusal),
         Ok(_) => Vec::new(),

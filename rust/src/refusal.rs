@@ -1,4 +1,5 @@
-//! Why a call was refused, and where.
+//! Why a call was refused, where, and what was too large.
+use crate::most;
 use std::error::Error;
 use std::fmt;
 
@@ -23,18 +24,120 @@ pub enum Cause {
     Words = 8,
 }
 
+/// What may be too large.
+#[derive(Clone, Copy, Debug, PartialEq, Eq, Hash)]
+pub enum What {
+    /// The steps that a run is lent.
+    Steps,
+    /// The depth that a run is lent.
+    Depth,
+    /// The size that a run is lent.
+    Size,
+    /// The count of unknowns, or an unknown's number.
+    Unknowns,
+    /// The count of functors, or a functor's number.
+    Functors,
+    /// The arity of a functor.
+    Arity,
+    /// The count of equations.
+    Equations,
+    /// The count of words of a question, or of the ground terms lent to a call.
+    Words,
+    /// The edition of a text.
+    Edition,
+    /// The number of an end.
+    End,
+    /// The visited number of a list.
+    Visited,
+}
+
+impl What {
+    /// The most that there may be of it, where there is such a number.
+    pub fn most(self) -> Option<u64> {
+        Some(match self {
+            What::Steps | What::Visited => most::STEPS,
+            What::Depth => most::DEPTH as u64,
+            What::Size => most::SIZE as u64,
+            What::Unknowns => most::UNKNOWNS as u64,
+            What::Functors => most::FUNCTORS as u64,
+            What::Arity => most::ARITY.into(),
+            What::Equations => most::EQUATIONS as u64,
+            What::Words => most::WORDS as u64,
+            What::Edition | What::End => return None,
+        })
+    }
+}
+
+impl fmt::Display for What {
+    fn fmt(&self, f: &mut fmt::Formatter<'_>) -> fmt::Result {
+        f.write_str(match self {
+            What::Steps => "steps",
+            What::Depth => "depth",
+            What::Size => "size",
+            What::Unknowns => "unknowns",
+            What::Functors => "functors",
+            What::Arity => "arity",
+            What::Equations => "equations",
+            What::Words => "words",
+            What::Edition => "edition",
+            What::End => "end",
+            What::Visited => "visited",
+        })
+    }
+}
+
+/// What was too large in a call, and the number that it had.
+#[derive(Clone, Copy, Debug, PartialEq, Eq, Hash)]
+pub struct Culprit {
+    /// What.
+    pub what: What,
+    /// Its number, or the largest number that there is where it has more digits than that.
+    pub given: u64,
+}
+
+impl Culprit {
+    pub(crate) fn new(what: What, given: usize) -> Culprit {
+        let given = given as u64;
+        Culprit { what, given }
+    }
+}
+
 /// A refusal: its cause and its place, an offset in bytes of text or in words; for [`Cause::Buffer`] the length needed.
+///
+/// ```
+/// use mensorique::{Cause, Limits, Question, What};
+///
+/// let question = Question::new(0, []);
+/// let refusal = question.run(Limits { depth: 2000, ..Limits::default() }).unwrap_err();
+/// assert_eq!(refusal.cause, Cause::Limit);
+/// assert_eq!(refusal.culprit.unwrap().what, What::Depth);
+/// assert_eq!(refusal.to_string(), "depth: 2000 is above the limit 1024");
+/// ```
 #[derive(Clone, Copy, Debug, PartialEq, Eq, Hash)]
 pub struct Refusal {
     /// Why.
     pub cause: Cause,
     /// Where.
     pub place: usize,
+    /// What was too large, where the cause is [`Cause::Limit`]; if several things were, the first of them.
+    pub culprit: Option<Culprit>,
 }
 
 impl Refusal {
-    /// What a status and a place say: nothing where the call was granted.
-    pub(crate) fn told(status: u32, place: usize) -> Result<(), Refusal> {
+    pub(crate) fn new(cause: Cause, place: usize) -> Refusal {
+        Refusal {
+            cause,
+            place,
+            culprit: None,
+        }
+    }
+
+    /// What a status and a place say: nothing where the call was granted. Where something is above its limit, `culprit` looks for it.
+    pub(crate) fn told(
+        status: u32,
+        place: usize,
+        culprit: impl FnOnce() -> Option<Culprit>,
+    ) -> Result<(), Refusal> {
         let cause = match status {
             0 => return Ok(()),
             1 => Cause::Byte,
@@ -49,28 +152,42 @@ impl Refusal {
                 unreachable!("the archive is proved to give a status of at most 8, not {other}")
             }
         };
-        Err(Refusal { cause, place })
+        let culprit = match cause {
+            Cause::Limit => culprit(),
+            _ => None,
+        };
+        Err(Refusal {
+            cause,
+            place,
+            culprit,
+        })
     }
 }
 
 impl fmt::Display for Refusal {
     fn fmt(&self, f: &mut fmt::Formatter<'_>) -> fmt::Result {
         let place = self.place;
-        match self.cause {
-            Cause::Byte => write!(
+        match (self.cause, self.culprit) {
+            (Cause::Byte, _) => write!(
                 f,
                 "the text has a byte that can't stand at {place}, or stops there"
             ),
-            Cause::Number => write!(f, "a number is missing or has a leading zero at {place}"),
-            Cause::Limit => write!(f, "something is above its limit at {place}"),
-            Cause::Undeclared => write!(
+            (Cause::Number, _) => write!(f, "a number is missing or has a leading zero at {place}"),
+            (Cause::Limit, Some(Culprit { what, given })) => match what.most() {
+                Some(most) => write!(f, "{what}: {given} is above the limit {most}"),
+                None => write!(f, "{what}: there is no {given}"),
+            },
+            (Cause::Limit, None) => write!(f, "something is above its limit at {place}"),
+            (Cause::Undeclared, _) => write!(
                 f,
                 "an unknown or a functor that isn't declared stands at {place}"
             ),
-            Cause::Arguments => write!(f, "a functor has a wrong count of arguments at {place}"),
-            Cause::Nesting => write!(f, "brackets nest above 200 at {place}"),
-            Cause::Buffer => write!(f, "a buffer is too small: {place} are needed"),
-            Cause::Words => write!(
+            (Cause::Arguments, _) => {
+                write!(f, "a functor has a wrong count of arguments at {place}")
+            }
+            (Cause::Nesting, _) => write!(f, "brackets nest above 200 at {place}"),
+            (Cause::Buffer, _) => write!(f, "a buffer is too small: {place} are needed"),
+            (Cause::Words, _) => write!(
                 f,
                 "the words form no such terms: the word at {place} can't stand there"
             ),

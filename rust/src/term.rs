@@ -150,8 +150,7 @@ impl Term {
         words: &mut Vec<u16>,
     ) -> Result<(), Refusal> {
         for symbol in self.symbols() {
-            let place = words.len();
-            let refused = |cause| Refusal { cause, place };
+            let refused = |cause| Refusal::new(cause, words.len());
             let declared = match symbol {
                 Symbol::Unknown(i) => usize::from(i) < unknowns,
                 Symbol::Functor(k, arguments) => match arities.get(usize::from(k)) {

@@ -1,6 +1,6 @@
 //! The entries over slices, without allocation: what `include/mensorique.h` says of them holds here word for word.
-use crate::archive;
 use crate::refusal::Refusal;
+use crate::{archive, culprits};
 
 /// A question in words.
 #[derive(Clone, Copy, Debug)]
@@ -76,7 +76,7 @@ pub fn read_question(
             &mut place,
         )
     };
-    Refusal::told(status, place).map(|()| read)
+    Refusal::told(status, place, || culprits::of_text(text, place)).map(|()| read)
 }
 
 /// Writes a question as text, and gives the text's length.
@@ -97,7 +97,7 @@ pub fn write_question(asked: Asked<'_>, text: &mut [u8]) -> Result<usize, Refusa
             &mut place,
         )
     };
-    Refusal::told(status, place).map(|()| length)
+    Refusal::told(status, place, || culprits::of_question(asked)).map(|()| length)
 }
 
 /// Writes a list of answers as text, and gives the text's length.
@@ -126,7 +126,8 @@ pub fn write_answers(
             &mut place,
         )
     };
-    Refusal::told(status, place).map(|()| length)
+    let culprit = || culprits::of_list(arities, end, visited);
+    Refusal::told(status, place, culprit).map(|()| length)
 }
 
 /// Are the two ground terms of a row equal?
@@ -143,7 +144,7 @@ pub fn equal(arities: &[u8], row: &[u16]) -> Result<bool, Refusal> {
             &mut place,
         )
     };
-    Refusal::told(status, place).map(|()| equal == 1)
+    Refusal::told(status, place, || culprits::of_row(arities, row)).map(|()| equal == 1)
 }
 
 /// Do the ground values of a row, one for each unknown in order, solve a question?
@@ -164,7 +165,8 @@ pub fn solves(asked: Asked<'_>, row: &[u16]) -> Result<bool, Refusal> {
             &mut place,
         )
     };
-    Refusal::told(status, place).map(|()| solves == 1)
+    let culprit = || culprits::of_question(asked).or_else(|| culprits::of_row(asked.arities, row));
+    Refusal::told(status, place, culprit).map(|()| solves == 1)
 }
 
 /// Lists the answers of a question into `answers`, in working room of at least [`room_words`] words.
@@ -206,5 +208,6 @@ pub fn run(
             &mut place,
         )
     };
-    Refusal::told(status, place).map(|()| ran)
+    let culprit = || culprits::of_run(asked, steps, depth, size);
+    Refusal::told(status, place, culprit).map(|()| ran)
 }

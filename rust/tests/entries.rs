@@ -201,6 +201,7 @@ fn refusals_say_what_and_where() {
     let refusal = Refusal {
         cause: Cause::Buffer,
         place: 65,
+        culprit: None,
     };
     assert_eq!(refusal.to_string(), "a buffer is too small: 65 are needed");
     let _: &dyn std::error::Error = &refusal;

@@ -128,35 +128,13 @@ fn more_lent_alters_nothing() {
 #[test]
 fn runs_are_refused() {
     let question = asked(1, x(0), a());
-    let limits = Limits::default();
-    let above = Refusal {
-        cause: Cause::Limit,
-        place: 0,
+    let short = |cause, place| {
+        Err(Refusal {
+            cause,
+            place,
+            culprit: None,
+        })
     };
-    assert_eq!(
-        question.run(Limits {
-            steps: 1_000_000_001,
-            ..limits
-        }),
-        Err(above)
-    );
-    assert_eq!(
-        question.run(Limits {
-            depth: 1025,
-            ..limits
-        }),
-        Err(above)
-    );
-    assert_eq!(
-        question.run(Limits {
-            size: usize::MAX,
-            ..limits
-        }),
-        Err(above)
-    );
-    assert_eq!(Question::new(257, []).run(limits), Err(above));
-
-    let short = |cause, place| Err(Refusal { cause, place });
     let (mut answers, mut room) = ([7; 8], [7; 10 * 10 - 1]);
     let bad = Asked {
         words: &[1000, 65535],
