@@ -4,6 +4,7 @@ use crate::refusal::Refusal;
 use crate::term::Term;
 use crate::words;
 use std::fmt;
+use std::sync::Arc;
 
 /// How a run ended. Only [`End::Done`] is final: then every answer is listed. After any other end the list is true but need not be whole.
 #[derive(Clone, Copy, Debug, PartialEq, Eq, Hash)]
@@ -62,17 +63,18 @@ pub struct Binding {
 /// A solved form: bindings in the order made. An unknown that none binds may have any value.
 pub type Answer = Vec<Binding>;
 
-/// The answers that a run listed, in order.
-#[derive(Clone, Debug, PartialEq, Eq)]
-pub struct Answers {
+/// The answers that a run listed into lent words, in order: [`Question::run_lent`](crate::Question::run_lent) gives it.
+#[derive(Clone, Copy, Debug, PartialEq, Eq)]
+pub struct List<'a> {
     pub(crate) end: End,
     pub(crate) visited: u64,
     pub(crate) count: usize,
-    pub(crate) words: Vec<u16>,
-    pub(crate) arities: Vec<u8>,
+    pub(crate) unknowns: usize,
+    pub(crate) arities: &'a Arc<[u8]>,
+    pub(crate) words: &'a [u16],
 }
 
-impl Answers {
+impl<'a> List<'a> {
     /// How the run ended.
     pub fn end(&self) -> End {
         self.end
@@ -94,31 +96,113 @@ impl Answers {
     }
 
     /// The words of the list: for each answer its number of bindings, and for each binding the unknown's number and its value's words.
-    pub fn words(&self) -> &[u16] {
-        &self.words
+    pub fn words(&self) -> &'a [u16] {
+        self.words
     }
 
     /// The list's text form.
     pub fn text(&self) -> Result<String, Refusal> {
+        let end = self.end as u64;
         written(|text| {
             words::write_answers(
-                &self.arities,
-                self.end as u64,
+                self.arities,
+                end,
                 self.visited,
                 self.count,
-                &self.words,
+                self.words,
                 text,
             )
         })
     }
 
     /// The answers, one after the other.
-    pub fn iter(&self) -> Iter<'_> {
+    pub fn iter(&self) -> Iter<'a> {
         Iter {
             left: self.count,
-            words: &self.words,
-            arities: &self.arities,
+            words: self.words,
+            arities: self.arities,
         }
+    }
+
+    /// The list in memory of its own, which holds its words and no more.
+    pub fn kept(&self) -> Answers {
+        Answers {
+            end: self.end,
+            visited: self.visited,
+            count: self.count,
+            unknowns: self.unknowns,
+            arities: self.arities.clone(),
+            words: self.words.into(),
+        }
+    }
+}
+
+/// The answers that a run listed, in order, in memory of their own: see [`List`], which has the same functions.
+#[derive(Clone, Debug, PartialEq, Eq)]
+pub struct Answers {
+    end: End,
+    visited: u64,
+    count: usize,
+    unknowns: usize,
+    arities: Arc<[u8]>,
+    words: Box<[u16]>,
+}
+
+impl Answers {
+    /// The list, borrowed.
+    pub fn list(&self) -> List<'_> {
+        List {
+            end: self.end,
+            visited: self.visited,
+            count: self.count,
+            unknowns: self.unknowns,
+            arities: &self.arities,
+            words: &self.words,
+        }
+    }
+
+    /// How the run ended.
+    pub fn end(&self) -> End {
+        self.end
+    }
+
+    /// How many nodes were visited.
+    pub fn visited(&self) -> u64 {
+        self.visited
+    }
+
+    /// How many answers are listed.
+    pub fn len(&self) -> usize {
+        self.count
+    }
+
+    /// Whether no answer is listed; only after [`End::Done`] does that mean that there is none.
+    pub fn is_empty(&self) -> bool {
+        self.count == 0
+    }
+
+    /// The words of the list: see [`List::words`].
+    pub fn words(&self) -> &[u16] {
+        &self.words
+    }
+
+    /// The list's text form.
+    pub fn text(&self) -> Result<String, Refusal> {
+        self.list().text()
+    }
+
+    /// The answers, one after the other.
+    pub fn iter(&self) -> Iter<'_> {
+        self.list().iter()
+    }
+}
+
+impl<'a> IntoIterator for List<'a> {
+    type Item = Answer;
+    type IntoIter = Iter<'a>;
+
+    fn into_iter(self) -> Iter<'a> {
+        self.iter()
     }
 }
 
@@ -153,13 +237,11 @@ impl Iterator for Iter<'_> {
     fn next(&mut self) -> Option<Answer> {
         self.left = self.left.checked_sub(1)?;
         let bindings = self.take_word();
-        let answer = (0..bindings)
-            .map(|_| Binding {
-                unknown: self.take_word(),
-                value: Term::take(&mut self.words, self.arities),
-            })
-            .collect();
-        Some(answer)
+        let answer = (0..bindings).map(|_| Binding {
+            unknown: self.take_word(),
+            value: Term::take(&mut self.words, self.arities),
+        });
+        Some(answer.collect())
     }
 
     fn size_hint(&self) -> (usize, Option<usize>) {

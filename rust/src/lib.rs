@@ -33,6 +33,7 @@
 mod answers;
 pub mod archive;
 mod culprits;
+mod limits;
 pub mod most;
 mod question;
 mod refusal;
@@ -40,8 +41,9 @@ mod shown;
 mod term;
 pub mod words;
 
-pub use answers::{Answer, Answers, Binding, End, Iter};
-pub use question::{equal, Limits, Question, Room};
+pub use answers::{Answer, Answers, Binding, End, Iter, List};
+pub use limits::{Limits, Room};
+pub use question::{equal, Question};
 pub use refusal::{Cause, Culprit, Refusal, What};
 pub use shown::{Names, Shown};
 pub use term::Term;

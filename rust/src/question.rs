@@ -1,9 +1,12 @@
 //! Questions: built term by term or read from text, and asked.
-use crate::answers::{Answers, End};
+use crate::answers::{Answers, End, List};
+use crate::limits::{reserved, Limits, Room};
 use crate::most;
-use crate::refusal::{Cause, Refusal};
+use crate::refusal::{Cause, Refusal, What};
 use crate::term::Term;
-use crate::words::{self, Asked};
+use crate::words::{self, Asked, Ran};
+use std::mem::MaybeUninit;
+use std::sync::Arc;
 
 /// A question: so many unknowns, the functors' arities, and equations between terms.
 ///
@@ -22,38 +25,8 @@ use crate::words::{self, Asked};
 #[derive(Clone, Debug, PartialEq, Eq)]
 pub struct Question {
     unknowns: usize,
-    arities: Vec<u8>,
+    arities: Arc<[u8]>,
     equations: usize,
-    words: Vec<u16>,
-}
-
-/// What a run may use: nodes visited, depth and size of a node, and words of answers. The default is that of the program `solve`.
-#[derive(Clone, Copy, Debug, PartialEq, Eq)]
-pub struct Limits {
-    /// At most 1,000,000,000.
-    pub steps: u64,
-    /// At most 1,024.
-    pub depth: usize,
-    /// At most 8,192.
-    pub size: usize,
-    /// The words that the list may have.
-    pub answer_words: usize,
-}
-
-impl Default for Limits {
-    fn default() -> Limits {
-        Limits {
-            steps: 100_000,
-            depth: 96,
-            size: 256,
-            answer_words: 4096,
-        }
-    }
-}
-
-/// Working room, kept from one run to the next so that it is allocated once. Runs at the same time need one each.
-#[derive(Debug, Default)]
-pub struct Room {
     words: Vec<u16>,
 }
 
@@ -62,7 +35,7 @@ impl Question {
     pub fn new(unknowns: usize, arities: impl Into<Vec<u8>>) -> Question {
         Question {
             unknowns,
-            arities: arities.into(),
+            arities: arities.into().into(),
             equations: 0,
             words: Vec::new(),
         }
@@ -84,14 +57,14 @@ impl Question {
 
     /// Reads the text form.
     pub fn read(text: impl AsRef<[u8]>) -> Result<Question, Refusal> {
-        let mut arities = vec![0; most::FUNCTORS];
+        let mut arities = [0; most::FUNCTORS];
         let mut words = vec![0; most::WORDS];
         let read = words::read_question(text.as_ref(), &mut arities, &mut words)?;
-        arities.truncate(read.functors);
         words.truncate(read.words);
+        words.shrink_to_fit();
         Ok(Question {
             unknowns: read.unknowns,
-            arities,
+            arities: arities[..read.functors].into(),
             equations: read.equations,
             words,
         })
@@ -117,29 +90,53 @@ impl Question {
     }
 
     /// Lists the answers, in room that is lent.
+    ///
+    /// Any limits may be asked for. Beside those above their bounds, words for answers or room that this machine has no memory for are refused, with
+    /// [`Cause::Buffer`].
     pub fn run_in(&self, limits: Limits, room: &mut Room) -> Result<Answers, Refusal> {
-        let needed = words::room_words(limits.depth, limits.size);
-        if room.words.len() < needed {
-            room.words.resize(needed, 0);
-        }
-        let mut listed = vec![0; limits.answer_words];
-        let ran = words::run(
-            self.asked(),
-            limits.steps,
-            limits.depth,
-            limits.size,
-            &mut listed,
-            &mut room.words,
-        )?;
-        listed.truncate(ran.words);
-        Ok(Answers {
-            end: End::of_number(ran.end)
-                .expect("the archive is proved to give an end of the table"),
-            visited: ran.visited,
-            count: ran.answers as usize,
-            words: listed,
-            arities: self.arities.clone(),
-        })
+        let room = self.room(limits, room)?;
+        let answer_words = limits.most_answer_words();
+        let limits = Limits {
+            answer_words,
+            ..limits
+        };
+        let mut listed = reserved(What::AnswerWords, answer_words)?;
+        // SAFETY: there is capacity for that many words, and a granted run has written as many as it tells.
+        let ran = unsafe { words::run_at(self.asked(), limits, listed.as_mut_ptr(), room)? };
+        unsafe { listed.set_len(ran.words) };
+        Ok(self.list(ran, &listed).kept())
+    }
+
+    /// Lists the answers into words that are lent, in room that is lent: nothing is allocated but room, where there is less than the run needs. As many words
+    /// are used as [`Limits::answer_words`] says, or all where they are fewer.
+    ///
+    /// ```
+    /// use mensorique::{Limits, Question, Room, Term};
+    ///
+    /// let (mut room, mut words) = (Room::default(), [0; 64]);
+    /// for courses in 1..4 {
+    ///     let mut question = Question::new(1, vec![0; courses.into()]);
+    ///     let group = Term::set((0..courses).map(Term::constant));
+    ///     question.equate(&Term::Unknown(0), &group)?;
+    ///     let list = question.run_lent(Limits::default(), &mut room, &mut words)?;
+    ///     assert_eq!(list.iter().next().unwrap()[0].value, group);
+    /// }
+    /// # Ok::<(), mensorique::Refusal>(())
+    /// ```
+    pub fn run_lent<'a>(
+        &'a self,
+        limits: Limits,
+        room: &mut Room,
+        words: &'a mut [u16],
+    ) -> Result<List<'a>, Refusal> {
+        let room = self.room(limits, room)?;
+        let limits = Limits {
+            answer_words: words.len().min(limits.answer_words),
+            ..limits
+        };
+        // SAFETY: the slice has at least that many words.
+        let ran = unsafe { words::run_at(self.asked(), limits, words.as_mut_ptr(), room)? };
+        Ok(self.list(ran, &words[..ran.words]))
     }
 
     /// The question in words.
@@ -149,6 +146,41 @@ impl Question {
             arities: &self.arities,
             equations: self.equations,
             words: &self.words,
+        }
+    }
+}
+
+impl Question {
+    /// The room that a run needs. A run without any is refused: for what is wrong with the limits or the question, or else for the room, with the
+    /// words needed. So nothing is allocated for a run that would be refused.
+    fn room<'a>(
+        &self,
+        limits: Limits,
+        room: &'a mut Room,
+    ) -> Result<&'a mut [MaybeUninit<u16>], Refusal> {
+        let Limits {
+            steps, depth, size, ..
+        } = limits;
+        match words::run(self.asked(), steps, depth, size, &mut [], &mut []) {
+            Err(Refusal {
+                cause: Cause::Buffer,
+                place,
+                ..
+            }) => room.lend(place),
+            Err(refusal) => Err(refusal),
+            Ok(_) => room.lend(0),
+        }
+    }
+
+    fn list<'a>(&'a self, ran: Ran, words: &'a [u16]) -> List<'a> {
+        List {
+            end: End::of_number(ran.end)
+                .expect("the archive is proved to give an end of the table"),
+            visited: ran.visited,
+            count: ran.answers as usize,
+            unknowns: self.unknowns,
+            arities: &self.arities,
+            words,
         }
     }
 }

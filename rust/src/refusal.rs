@@ -33,6 +33,10 @@ pub enum What {
     Depth,
     /// The size that a run is lent.
     Size,
+    /// The words for answers: there is no limit but this machine's memory.
+    AnswerWords,
+    /// The words of room: there is no limit but this machine's memory.
+    Room,
     /// The count of unknowns, or an unknown's number.
     Unknowns,
     /// The count of functors, or a functor's number.
@@ -63,7 +67,7 @@ impl What {
             What::Arity => most::ARITY.into(),
             What::Equations => most::EQUATIONS as u64,
             What::Words => most::WORDS as u64,
-            What::Edition | What::End => return None,
+            What::AnswerWords | What::Room | What::Edition | What::End => return None,
         })
     }
 }
@@ -74,6 +78,8 @@ impl fmt::Display for What {
             What::Steps => "steps",
             What::Depth => "depth",
             What::Size => "size",
+            What::AnswerWords => "words for answers",
+            What::Room => "words of room",
             What::Unknowns => "unknowns",
             What::Functors => "functors",
             What::Arity => "arity",
@@ -119,7 +125,7 @@ pub struct Refusal {
     pub cause: Cause,
     /// Where.
     pub place: usize,
-    /// What was too large, where the cause is [`Cause::Limit`]; if several things were, the first of them.
+    /// What was too large, where the cause is [`Cause::Limit`] or memory couldn't be had; if several things were, the first of them.
     pub culprit: Option<Culprit>,
 }
 
@@ -162,6 +168,14 @@ impl Refusal {
             culprit,
         })
     }
+
+    /// So many words cannot be had.
+    pub(crate) fn memory(what: What, words: usize) -> Refusal {
+        Refusal {
+            culprit: Some(Culprit::new(what, words)),
+            ..Refusal::new(Cause::Buffer, words)
+        }
+    }
 }
 
 impl fmt::Display for Refusal {
@@ -186,7 +200,10 @@ impl fmt::Display for Refusal {
                 write!(f, "a functor has a wrong count of arguments at {place}")
             }
             (Cause::Nesting, _) => write!(f, "brackets nest above 200 at {place}"),
-            (Cause::Buffer, _) => write!(f, "a buffer is too small: {place} are needed"),
+            (Cause::Buffer, Some(Culprit { what, given })) => {
+                write!(f, "{what}: this machine has no memory for {given}")
+            }
+            (Cause::Buffer, None) => write!(f, "a buffer is too small: {place} are needed"),
             (Cause::Words, _) => write!(
                 f,
                 "the words form no such terms: the word at {place} can't stand there"

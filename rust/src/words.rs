@@ -1,6 +1,7 @@
 //! The entries over slices, without allocation: what `include/mensorique.h` says of them holds here word for word.
 use crate::refusal::Refusal;
-use crate::{archive, culprits};
+use crate::{archive, culprits, Limits};
+use std::mem::MaybeUninit;
 
 /// A question in words.
 #[derive(Clone, Copy, Debug)]
@@ -178,6 +179,30 @@ pub fn run(
     answers: &mut [u16],
     room: &mut [u16],
 ) -> Result<Ran, Refusal> {
+    let limits = Limits {
+        steps,
+        depth,
+        size,
+        answer_words: answers.len(),
+    };
+    // SAFETY: the answers' slice has that many words, and the archive writes words to both, so that they stay initialized.
+    unsafe {
+        let room = &mut *(room as *mut [u16] as *mut [MaybeUninit<u16>]);
+        run_at(asked, limits, answers.as_mut_ptr(), room)
+    }
+}
+
+/// The same with words that need not be initialized, neither those of answers nor of room: a granted run has written as many words of answers as it tells, and
+/// what room held before changes no result.
+///
+/// # Safety
+/// There are `limits.answer_words` words at `answers` that nothing else uses.
+pub(crate) unsafe fn run_at(
+    asked: Asked<'_>,
+    limits: Limits,
+    answers: *mut u16,
+    room: &mut [MaybeUninit<u16>],
+) -> Result<Ran, Refusal> {
     let mut ran = Ran {
         end: 0,
         visited: 0,
@@ -185,7 +210,10 @@ pub fn run(
         words: 0,
     };
     let mut place = 0;
-    // SAFETY: as in `read_question`.
+    let Limits {
+        steps, depth, size, ..
+    } = limits;
+    // SAFETY: as in `read_question`; for the answers the caller vouches.
     let status = unsafe {
         archive::mensorique_run(
             asked.unknowns,
@@ -197,9 +225,9 @@ pub fn run(
             steps,
             depth,
             size,
-            answers.as_mut_ptr(),
-            answers.len(),
-            room.as_mut_ptr(),
+            answers,
+            limits.answer_words,
+            room.as_mut_ptr().cast(),
             room.len(),
             &mut ran.end,
             &mut ran.visited,

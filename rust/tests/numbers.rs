@@ -1,6 +1,6 @@
 //! No number makes the crate panic, and what is too large is named.
 use mensorique::words::{self, Asked};
-use mensorique::{Culprit, Limits, Question, Refusal, Term, What};
+use mensorique::{Cause, Culprit, Limits, Question, Refusal, Room, Term, What};
 
 const NUMBERS: [usize; 12] = [
     0,
@@ -29,6 +29,60 @@ fn culprit<T: std::fmt::Debug>(result: Result<T, Refusal>) -> (What, u64, String
     let refusal = result.expect_err("a refusal");
     let Culprit { what, given } = refusal.culprit.expect("a culprit");
     (what, given, refusal.to_string())
+}
+
+/// A run is granted, or refused for a limit above its bound, or for words that no machine has.
+#[test]
+fn a_run_takes_any_limits() {
+    let question = question();
+    let mut room = Room::default();
+    for steps in NUMBERS {
+        for depth in NUMBERS {
+            for size in NUMBERS {
+                for answer_words in NUMBERS {
+                    let limits = Limits {
+                        steps: steps as u64,
+                        depth,
+                        size,
+                        answer_words,
+                    };
+                    let above = steps > 1_000_000_000 || depth > 1024 || size > 8192;
+                    match question.run_in(limits, &mut room) {
+                        Ok(answers) => assert!(!above && answers.words().len() <= answer_words),
+                        Err(refusal) if above => assert_eq!(refusal.cause, Cause::Limit),
+                        Err(refusal) => {
+                            assert_eq!(refusal.cause, Cause::Buffer);
+                            let what = refusal.culprit.unwrap().what;
+                            assert_eq!(what, What::AnswerWords);
+                        }
+                    }
+                }
+            }
+        }
+    }
+}
+
+/// More words than a machine can have: refused, and nothing else happens.
+#[test]
+fn words_that_cannot_be_had_are_refused() {
+    let limits = Limits {
+        answer_words: usize::MAX,
+        ..Limits::MOST
+    };
+    let words = 1_000_000_000 * 8193;
+    let given = question().run(limits);
+    match given {
+        // 16 TB may be had where the system gives memory that it hasn't got.
+        Ok(answers) => assert_eq!(answers.len(), 1),
+        refused => assert_eq!(
+            culprit(refused),
+            (
+                What::AnswerWords,
+                words,
+                format!("words for answers: this machine has no memory for {words}")
+            )
+        ),
+    }
 }
 
 #[test]
