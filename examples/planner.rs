@@ -1,11 +1,10 @@
 //! The question of `planner.c`, asked from Rust:
 //!     {algebra,x0,lab(x1)} = {geometry,lab(logic)|x2}
-use mensorique::{Answer, End, Limits, Question, Refusal, Room, Term};
-use std::collections::BTreeMap;
+use mensorique::{Answer, End, Limits, Names, Question, Refusal, Room, Term};
 
-const NAMES: [&str; 4] = ["algebra", "geometry", "logic", "lab"];
+const PLACES: [&str; 3] = ["x0", "x1", "x2"];
+const COURSES: [&str; 4] = ["algebra", "geometry", "logic", "lab"];
 const ARITIES: [u8; 4] = [0, 0, 0, 1];
-const UNKNOWNS: u16 = 3;
 
 fn course(k: u16) -> Term {
     Term::constant(k)
@@ -15,52 +14,23 @@ fn lab(of: Term) -> Term {
     Term::Functor(3, vec![of])
 }
 
-type Values = BTreeMap<u16, Term>;
-
-/// The term with the value of each unknown that has one.
-fn filled(term: &Term, values: &Values) -> Term {
-    let all = |terms: &[Term]| terms.iter().map(|t| filled(t, values)).collect::<Vec<_>>();
-    match term {
-        Term::Unknown(i) => values
-            .get(i)
-            .map_or(Term::Unknown(*i), |value| filled(value, values)),
-        Term::Empty => Term::Empty,
-        Term::Functor(k, arguments) => Term::Functor(*k, all(arguments)),
-        Term::Set(members, tail) => Term::set_with(all(members), filled(tail, values)),
+/// What an answer makes of each unknown, and of the group.
+fn line(answer: &Answer, group: &Term, names: &Names) -> Result<String, Refusal> {
+    let mut line = String::new();
+    for (i, place) in (0..).zip(PLACES) {
+        let value = answer.filled(&Term::Unknown(i))?;
+        line += &format!(" {place}={}", value.shown(names));
     }
-}
-
-/// The term with the courses' names.
-fn named(term: &Term) -> String {
-    let all = |terms: &[Term]| terms.iter().map(named).collect::<Vec<_>>().join(",");
-    match term {
-        Term::Functor(k, arguments) if arguments.is_empty() => NAMES[usize::from(*k)].to_string(),
-        Term::Functor(k, arguments) => format!("{}({})", NAMES[usize::from(*k)], all(arguments)),
-        Term::Set(members, tail) if **tail == Term::Empty => format!("{{{}}}", all(members)),
-        Term::Set(members, tail) => format!("{{{}|{}}}", all(members), named(tail)),
-        other => other.to_string(),
-    }
-}
-
-fn line(answer: Answer, group: &Term) -> String {
-    let values: Values = answer
-        .into_iter()
-        .map(|binding| (binding.unknown, binding.value))
-        .collect();
-    let places =
-        (0..UNKNOWNS).map(|i| format!(" x{i}={}", named(&filled(&Term::Unknown(i), &values))));
-    format!(
-        "{} group={}",
-        places.collect::<String>(),
-        named(&filled(group, &values))
-    )
+    let group = answer.filled(group)?;
+    Ok(format!("{line} group={}", group.shown(names)))
 }
 
 fn main() -> Result<(), Refusal> {
     let left = Term::set([course(0), Term::Unknown(0), lab(Term::Unknown(1))]);
     let right = Term::set_with([course(1), lab(course(2))], Term::Unknown(2));
-    println!("asked: {} = {}", named(&left), named(&right));
-    let mut question = Question::new(UNKNOWNS.into(), ARITIES);
+    let names = Names::new(PLACES, COURSES);
+    println!("asked: {} = {}", left.shown(&names), right.shown(&names));
+    let mut question = Question::new(PLACES.len(), ARITIES);
     question.equate(&left, &right)?;
 
     // Few steps first, then more: what was listed stays as it was, and only `done` is final.
@@ -80,7 +50,7 @@ fn main() -> Result<(), Refusal> {
             answers.len()
         );
         for (i, answer) in answers.iter().enumerate() {
-            println!("{}:{}", i + 1, line(answer, &left));
+            println!("{}:{}", i + 1, line(&answer, &left, &names)?);
         }
         if answers.end() == End::Done {
             println!("these are all");

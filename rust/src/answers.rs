@@ -1,4 +1,6 @@
 //! What a run lists: answers, and how it ended.
+use crate::answer::{Answer, Binding};
+use crate::groups::{self, Group};
 use crate::question::written;
 use crate::refusal::Refusal;
 use crate::term::Term;
@@ -50,18 +52,6 @@ impl fmt::Display for End {
         })
     }
 }
-
-/// One binding of an answer.
-#[derive(Clone, Debug, PartialEq, Eq)]
-pub struct Binding {
-    /// The unknown's number; new ones are numbered on from the question's.
-    pub unknown: u16,
-    /// It mentions no unknown that is bound in this or an earlier binding.
-    pub value: Term,
-}
-
-/// A solved form: bindings in the order made. An unknown that none binds may have any value.
-pub type Answer = Vec<Binding>;
 
 /// The answers that a run listed into lent words, in order: [`Question::run_lent`](crate::Question::run_lent) gives it.
 #[derive(Clone, Copy, Debug, PartialEq, Eq)]
@@ -122,6 +112,33 @@ impl<'a> List<'a> {
             words: self.words,
             arities: self.arities,
         }
+    }
+
+    /// The distinct groups that the answers make of these terms: every answer's values are put in, and answers whose terms are equal by the laws, one by
+    /// one, are of one group. [`Group`] says how unknowns are taken that have no value.
+    ///
+    /// Groups come in the order in which they were first listed, so that more steps, depth, size or space never alter a group, but may list it more
+    /// often. Refused are terms that are too large to be compared: with all values put in, a term may have half of [`most::WORDS`](crate::most::WORDS).
+    ///
+    /// ```
+    /// use mensorique::{Limits, Question, Term};
+    ///
+    /// // {x0,x1} = {f0,f1}: two answers, and one group, {f0,f1}.
+    /// let mut question = Question::new(2, [0, 0]);
+    /// let places = Term::set([Term::Unknown(0), Term::Unknown(1)]);
+    /// let courses = Term::set([Term::constant(0), Term::constant(1)]);
+    /// question.equate(&places, &courses)?;
+    /// let answers = question.run(Limits::default())?;
+    /// let groups = answers.groups(&[places])?;
+    /// assert_eq!(groups.len(), 1);
+    /// assert_eq!(groups[0].terms, [courses]);
+    /// assert_eq!(groups[0].listed, [0, 1]);
+    /// // What x0 is makes two.
+    /// assert_eq!(answers.groups(&[Term::Unknown(0)])?.len(), 2);
+    /// # Ok::<(), mensorique::Refusal>(())
+    /// ```
+    pub fn groups(&self, terms: &[Term]) -> Result<Vec<Group>, Refusal> {
+        groups::distinct(*self, terms)
     }
 
     /// The list in memory of its own, which holds its words and no more.
@@ -195,6 +212,11 @@ impl Answers {
     pub fn iter(&self) -> Iter<'_> {
         self.list().iter()
     }
+
+    /// The distinct groups that the answers make of these terms: see [`List::groups`].
+    pub fn groups(&self, terms: &[Term]) -> Result<Vec<Group>, Refusal> {
+        self.list().groups(terms)
+    }
 }
 
 impl<'a> IntoIterator for List<'a> {
@@ -237,11 +259,11 @@ impl Iterator for Iter<'_> {
     fn next(&mut self) -> Option<Answer> {
         self.left = self.left.checked_sub(1)?;
         let bindings = self.take_word();
-        let answer = (0..bindings).map(|_| Binding {
+        let binding = |_| Binding {
             unknown: self.take_word(),
             value: Term::take(&mut self.words, self.arities),
-        });
-        Some(answer.collect())
+        };
+        Some(Answer::new((0..bindings).map(binding).collect()))
     }
 
     fn size_hint(&self) -> (usize, Option<usize>) {

@@ -6,33 +6,37 @@
 //! [`archive`] as C has them.
 //!
 //! ```
-//! use mensorique::{End, Limits, Question, Term};
+//! use mensorique::{End, Limits, Names, Question, Term};
 //!
-//! // {x0,x1} = {f0,f1}: x0 is f0 and x1 is f1, or the other way round.
+//! // {x,y} = {algebra,logic}: x is algebra and y is logic, or the other way round.
+//! let names = Names::new(["x", "y"], ["algebra", "logic"]);
 //! let mut question = Question::new(2, [0, 0]);
 //! let places = Term::set([Term::Unknown(0), Term::Unknown(1)]);
 //! let courses = Term::set([Term::constant(0), Term::constant(1)]);
 //! question.equate(&places, &courses)?;
 //! let answers = question.run(Limits::default())?;
 //! assert_eq!(answers.end(), End::Done);
-//! assert_eq!(answers.len(), 2);
+//! let mut lines = Vec::new();
 //! for answer in &answers {
-//!     for binding in answer {
-//!         println!("x{} = {}", binding.unknown, binding.value);
-//!     }
+//!     let value = answer.filled(&Term::Unknown(0))?;
+//!     lines.push(format!("x = {}", value.shown(&names)));
 //! }
+//! assert_eq!(lines, ["x = algebra", "x = logic"]);
 //! # Ok::<(), mensorique::Refusal>(())
 //! ```
 //!
-//! A refused call has a [`Refusal`]: its cause, its place, and what was too large. Calls may run at the same time; each run has its own [`Room`].
+//! Two answers may say the same of what matters: [`List::groups`] puts those together. A refused call has a [`Refusal`]: its cause, its place, and
+//! what was too large. Calls may run at the same time; each run has its own [`Room`].
 //!
 //! A call into the archive needs at most 1 MiB of stack (`docs/GUIDE.md` has what was measured).
 //! Terms are cloned, compared and dropped by recursion; 8,192 levels, more than any run lists, are dropped within the 2 MiB of a spawned thread.
 #![warn(missing_docs)]
 
+mod answer;
 mod answers;
 pub mod archive;
 mod culprits;
+mod groups;
 mod limits;
 pub mod most;
 mod question;
@@ -41,7 +45,9 @@ mod shown;
 mod term;
 pub mod words;
 
-pub use answers::{Answer, Answers, Binding, End, Iter, List};
+pub use answer::{Answer, Binding};
+pub use answers::{Answers, End, Iter, List};
+pub use groups::{equal_held, Group};
 pub use limits::{Limits, Room};
 pub use question::{equal, Question};
 pub use refusal::{Cause, Culprit, Refusal, What};

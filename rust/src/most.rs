@@ -16,5 +16,5 @@ pub const NESTING: usize = 200;
 pub const STEPS: u64 = 1_000_000_000;
 /// How deep a node may be lent to be.
 pub const DEPTH: usize = 1024;
-/// How many symbols a node may be lent to hold.
+/// How many symbols a node may be lent to hold; a term with all values put in has no more either ([`Answer::filled`](crate::Answer::filled)).
 pub const SIZE: usize = 8192;

@@ -31,7 +31,7 @@ pub enum What {
     Steps,
     /// The depth that a run is lent.
     Depth,
-    /// The size that a run is lent.
+    /// The size that a run is lent; or the symbols of a term with all values put in.
     Size,
     /// The words for answers: there is no limit but this machine's memory.
     AnswerWords,

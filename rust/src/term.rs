@@ -1,5 +1,6 @@
 //! Terms, and their words.
 use crate::refusal::{Cause, Refusal};
+use std::cmp::Ordering;
 
 const EMPTY: u16 = 0;
 const WITH: u16 = 1;
@@ -183,18 +184,30 @@ impl Term {
 
     /// The term that has these symbols, which are known to form one.
     pub(crate) fn made_of(symbols: impl DoubleEndedIterator<Item = Symbol>) -> Term {
-        made(symbols)
+        made(symbols, |_| ())
+    }
+
+    /// The same, with the members of every set put in order, and without those of a kind that stand side by side then.
+    pub(crate) fn made_in_order(
+        symbols: impl DoubleEndedIterator<Item = Symbol>,
+        order: impl Fn(&Term, &Term) -> Ordering,
+    ) -> Term {
+        made(symbols, |members| {
+            members.sort_by(&order);
+            members.dedup();
+        })
     }
 }
 
-/// The term that has these symbols.
-fn made(symbols: impl DoubleEndedIterator<Item = Symbol>) -> Term {
+/// The term that has these symbols; `settle` has each set's members before the set is taken as a whole.
+fn made(symbols: impl DoubleEndedIterator<Item = Symbol>, settle: impl Fn(&mut Vec<Term>)) -> Term {
     // From the right, the terms after a symbol lie ready, a set's members with the last first until it is taken as a whole.
     let mut ready: Vec<Term> = Vec::new();
     let whole = |ready: &mut Vec<Term>| {
         let mut term = ready.pop().expect("a term");
         if let Term::Set(members, _) = &mut term {
             members.reverse();
+            settle(members);
         }
         term
     };

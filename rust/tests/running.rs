@@ -24,7 +24,7 @@ fn asked(unknowns: usize, left: Term, right: Term) -> Question {
 fn listed(question: &Question) -> (Vec<String>, u64) {
     let answers = question.run(Limits::default()).unwrap();
     assert_eq!(answers.end(), End::Done);
-    let text = |answer: Vec<mensorique::Binding>| {
+    let text = |answer: mensorique::Answer| {
         answer
             .iter()
             .map(|b| format!("x{}={}", b.unknown, b.value))
