@@ -257,7 +257,8 @@ fn groups_are_those_of_the_laws() {
             0 => random.term(3),
             _ => rewritten(&one, &mut random),
         };
-        let written = |term: &Term| answers.groups(&[term.clone()]).unwrap()[0].terms[0].clone();
+        let written =
+            |term: &Term| answers.groups(std::slice::from_ref(term)).unwrap()[0].terms[0].clone();
         let alike = written(&one) == written(&other);
         assert_eq!(alike, equal_held(&ARITIES, &one, &other).unwrap());
         assert!(equal_held(&ARITIES, &one, &written(&one)).unwrap());
