@@ -1,5 +1,7 @@
 //! The loans that `docs/GUIDE.md` tells: just enough for its questions, and one less of any is not.
 use mensorique::{End, Limits, Question, Term};
+use std::fs;
+use std::path::Path;
 
 fn course(k: u16) -> Term {
     Term::constant(k)
@@ -91,4 +93,49 @@ fn three_equations() {
         question.equate(&places, &courses).unwrap();
     }
     just_enough(&question, 519, 18, 30, 104);
+}
+
+/// The rows of the guide's table of costs, but for those that take long.
+#[test]
+fn the_guides_costs() {
+    let guide = Path::new(env!("CARGO_MANIFEST_DIR")).join("../docs/GUIDE.md");
+    let guide = fs::read_to_string(guide).unwrap();
+    let rows = guide
+        .lines()
+        .skip_while(|line| !line.starts_with("| members a side"));
+    let mut held = Vec::new();
+    for row in rows.skip(2).take_while(|line| line.starts_with('|')) {
+        let cells: Vec<&str> = row.split('|').map(str::trim).collect();
+        let number = |cell: usize| cells[cell].replace(',', "").parse::<u64>().unwrap();
+        let (n, nodes, answers, groups) = (number(1) as u16, number(4), number(6), number(7));
+        held.push((n, cells[2]));
+        if nodes > 20_000 {
+            continue;
+        }
+        let (left, right) = match cells[2] {
+            "none" => (Term::Empty, Term::Empty),
+            "one" => (place(n), Term::Empty),
+            "different" => (place(n), place(n + 1)),
+            "the same" => (place(n), place(n)),
+            other => panic!("tails {other:?}"),
+        };
+        let mut question = Question::new(usize::from(n) + 2, vec![0; n.into()]);
+        let group = Term::set_with((0..n).map(place), left);
+        let courses = Term::set_with((0..n).map(course), right);
+        question.equate(&group, &courses).unwrap();
+        let limits = Limits {
+            answer_words: 100_000,
+            ..Limits::MOST
+        };
+        let run = question.run(limits).unwrap();
+        assert_eq!(
+            (run.end().to_string().as_str(), run.visited()),
+            (cells[3], nodes)
+        );
+        assert_eq!(run.len() as u64, answers);
+        assert_eq!(run.groups(&[group]).unwrap().len() as u64, groups);
+    }
+    let all =
+        (1..=6).flat_map(|n| ["none", "one", "different", "the same"].map(|tails| (n, tails)));
+    assert!(held.into_iter().eq(all));
 }
