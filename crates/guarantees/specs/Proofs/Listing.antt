@@ -147,7 +147,7 @@ module _ (q : Posed) (l : Lending) (o : Outcome) (gave : run-told q l ≡ gives 
   pub list-read-back : map (answer-words edition-one) (answers-of edition-one (q .arities) (length (o .answers)) (listed (o .answers))) ≡ o .answers
   list-read-back = rw (answers-back edition-one-proper table (list-answered bindings)) (bindings .words)
 
-  list-fine : check-list edition-one (end-of (end-number (o .end))) (o .visited) (q .arities) (length (o .answers)) (listed (o .answers)) ≡ Fine
+  pub list-fine : check-list edition-one (end-of (end-number (o .end))) (o .visited) (q .arities) (length (o .answers)) (listed (o .answers)) ≡ Fine
   unfolding check-list above
   list-fine =
       rw (end-by-number (o .end), le-ltb most-steps (o .visited) (omega (arith, steps-suffice, granted .steps)))
