@@ -2,7 +2,8 @@
 use crate::{ask, plan, plans, status, text, ENDLESS, PLANNER};
 use std::fs;
 use std::io::{BufRead, BufReader, Read, Write};
-use std::process::{Command, Stdio};
+use std::os::unix::process::CommandExt;
+use std::process::{Child, Command, Stdio};
 use std::time::{Duration, Instant};
 
 /// Every end that can come, its reason and what to lend; what is lent then is enough for more.
@@ -113,55 +114,66 @@ fn time_is_kept() {
     assert_eq!(status(&output), 3);
 }
 
+extern "C" {
+    /// The C library's; 0 leaves a signal to what it does by itself, and 1 makes it do nothing.
+    fn signal(number: i32, handler: usize) -> usize;
+}
+
+/// A long run, for which SIGINT does what `handler` says when it begins: what a shell lets run in the background begins with a SIGINT that does nothing.
+fn endless(handler: usize, time: &str) -> Child {
+    let mut command = plan();
+    command.args(["--steps", "1000000000", "--time", time]);
+    command.stdin(Stdio::piped());
+    command.stdout(Stdio::piped()).stderr(Stdio::piped());
+    let prepare = move || {
+        // SAFETY: it may be called between fork and exec.
+        unsafe { signal(2, handler) };
+        Ok(())
+    };
+    // SAFETY: nothing but `signal` is called.
+    let mut child = unsafe { command.pre_exec(prepare) }.spawn().unwrap();
+    let mut input = child.stdin.take().unwrap();
+    input.write_all(ENDLESS.as_bytes()).unwrap();
+    child
+}
+
+fn send(signal: &str, child: &Child) {
+    let id = child.id().to_string();
+    let sent = Command::new("kill").args([signal, &id]).status();
+    assert!(sent.unwrap().success());
+}
+
 /// A long run tells how it goes on; interrupted, it prints what is listed so far.
 #[test]
 fn interruption_prints_what_is_listed() {
     for signal in ["-INT", "-TERM"] {
-        let mut command = plan();
-        command
-            .args(["--steps", "1000000000"])
-            .stdin(Stdio::piped());
-        command.stdout(Stdio::piped()).stderr(Stdio::piped());
-        let mut child = command.spawn().unwrap();
-        child
-            .stdin
-            .take()
-            .unwrap()
-            .write_all(ENDLESS.as_bytes())
-            .unwrap();
+        let mut child = endless(0, "600");
         let mut progress = String::new();
         let mut told = BufReader::new(child.stderr.take().unwrap());
         told.read_line(&mut progress).unwrap();
-        assert!(
-            progress.starts_with("plan: ") && progress.contains(" nodes in "),
-            "{progress}"
-        );
-        assert!(
-            progress.contains(" a second; answers so far: 0"),
-            "{progress}"
-        );
-        let killed = Command::new("kill")
-            .args([signal, &child.id().to_string()])
-            .status();
-        assert!(killed.unwrap().success());
+        assert!(progress.starts_with("plan: "), "{progress}");
+        assert!(progress.contains(" nodes in "), "{progress}");
+        assert!(progress.contains(" a second; answers so far: 0"));
+        send(signal, &child);
         let mut said = String::new();
-        child
-            .stdout
-            .take()
-            .unwrap()
-            .read_to_string(&mut said)
-            .unwrap();
+        let mut output = child.stdout.take().unwrap();
+        output.read_to_string(&mut said).unwrap();
         assert_eq!(child.wait().unwrap().code(), Some(3));
-        assert!(
-            said.contains("\nnot finished: it was interrupted\n"),
-            "{said}"
-        );
-        let visited = progress.split(' ').nth(1).unwrap();
-        assert!(
-            said.contains(" nodes visited\n") && !said.contains(", 0 nodes"),
-            "{said} {visited}"
-        );
+        assert!(said.contains("\nnot finished: it was interrupted\n"));
+        let counts = said.lines().find(|line| line.ends_with(" nodes visited"));
+        assert!(!counts.unwrap().contains(", 0 nodes"), "{said}");
     }
+}
+
+/// Where a signal did nothing to begin with, it stays so.
+#[test]
+fn an_ignored_signal_stays_ignored() {
+    let mut child = endless(1, "3");
+    let mut told = BufReader::new(child.stderr.take().unwrap());
+    told.read_line(&mut String::new()).unwrap();
+    send("-INT", &child);
+    let output = child.wait_with_output().unwrap();
+    assert!(text(&output.stdout).contains("\nnot finished: 3 s are too short\n"));
 }
 
 #[test]
