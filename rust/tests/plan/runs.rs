@@ -119,7 +119,8 @@ extern "C" {
     fn signal(number: i32, handler: usize) -> usize;
 }
 
-/// A long run, for which SIGINT does what `handler` says when it begins: what a shell lets run in the background begins with a SIGINT that does nothing.
+/// A long run, for which SIGINT does what `handler` says when it begins: what a shell lets run in the background begins with a SIGINT that does nothing. SIGTERM
+/// does what it does by itself.
 fn endless(handler: usize, time: &str) -> Child {
     let mut command = plan();
     command.args(["--steps", "1000000000", "--time", time]);
@@ -128,6 +129,7 @@ fn endless(handler: usize, time: &str) -> Child {
     let prepare = move || {
         // SAFETY: it may be called between fork and exec.
         unsafe { signal(2, handler) };
+        unsafe { signal(15, 0) };
         Ok(())
     };
     // SAFETY: nothing but `signal` is called.
