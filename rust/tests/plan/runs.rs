@@ -104,7 +104,7 @@ fn time_is_kept() {
     let began = Instant::now();
     let output = ask(&["--time", "1.5", "--steps", "1000000000"], ENDLESS);
     let took = began.elapsed();
-    assert!(took < Duration::from_secs(4), "{took:?}");
+    assert!(took < Duration::from_secs(20), "{took:?}");
     let said = text(&output.stdout);
     assert!(
         said.contains("\nnot finished: 1.5 s are too short\n"),
