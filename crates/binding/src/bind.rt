@@ -1,7 +1,5 @@
 // A binding of x to a term, whose words stand somewhere in the room: what a child's row has after its new equations.
-ghost use mathlib.Core.Path.{_≡_};
 ghost use Prim.Native.Nat.{_+_, _-_, _≤_};
-ghost use Rattle.room.specs.Room.{seg};
 ghost use Rattle.terms.specs.Bounds.{edition-one};
 ghost use Rattle.rows.specs.Wrote.{Wrote};
 ghost use mathlib.Core.List.{_++_};

@@ -1,5 +1,4 @@
 // A step that binds nothing: the rest of the parent's row as it is, with one entry more at the end of its pile, or none.
-ghost use mathlib.Core.Path.{_≡_};
 ghost use Rattle.rows.specs.Wrote.{Wrote};
 ghost use Rattle.rows.specs.Bind.{BindParts, FinishParts};
 ghost use Rattle.rows.specs.Header.{header-of};

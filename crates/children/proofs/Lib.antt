@@ -1,2 +1,3 @@
 pub mod Choosing
 pub mod Leaving
+pub mod Showing

@@ -1,9 +1,12 @@
 // The children of a row from a number on, by the kind of the row: dead ends are passed, and the first child that is none is written to the next row.
 // Crate `only_child` has the rows without a choice, and `openings` the splits.
+ghost use mathlib.Core.Path.{_≡_};
+ghost use mathlib.Core.Bool.{true};
 ghost use Prim.Native.Nat.{ℕ, _+_};
 ghost use Rattle.search.specs.State.{State};
 ghost use Rattle.only_child.specs.Next.{Ready};
 ghost use Rattle.pick_loop.specs.Shown.{Looks, Opened, OpenedAt, Opens};
+ghost use Rattle.children.specs.Looking.{Looking};
 use only_child::next::Looked;
 use only_child::next::Next;
 use only_child::quiet::join_pile;
@@ -114,4 +117,29 @@ pub fn next_pick(
     ensures { λ r. ⌜ ((st : State) (last : ℕ) → Opened (now (arities .entry)) (now (room .entry)) at size scratch most st last → Opens (now (room .entry)) at (last + 1) size scratch most st r (now (room .exit))) ⌝ }
 {
     pick_on(arities, room, at, size, scratch, most)
+}
+
+// What is told of the children of the row at `at`, of this level, from `number` on: where its split stands open, only the picks go on.
+pub fn look(
+    arities: &[u8],
+    room: &mut [u16],
+    at: usize,
+    level: usize,
+    number: usize,
+    size: usize,
+    scratch: usize,
+    most: usize,
+    shown: usize,
+) -> Looked
+    requires { ⌜ ((st : State) × Looking (now arities) (now room) at level number size scratch most shown st) ⌝ }
+    ensures { λ r. ⌜ ((st : State) → Looking (now (arities .entry)) (now (room .entry)) at level number size scratch most shown st → Looks (now (room .entry)) at number size scratch most st r (now (room .exit))) ⌝ }
+    ensures { λ r. ⌜ (shown ≡ level + 1 → r .opens ≡ true) ⌝ }
+{
+    if shown == level + 1 {
+        return Looked {
+            next: next_pick(arities, room, at, size, scratch, most),
+            opens: true,
+        };
+    }
+    next_child(arities, room, at, number, size, scratch, most)
 }

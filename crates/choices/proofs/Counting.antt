@@ -50,9 +50,6 @@ module _ {r₀ : List ℕ} {whole n radix to : ℕ} {r : List ℕ} {left i : ℕ
     long = ap length (S .done .room) ∙ length-put r₀ (to + i) (S .done .digits);
   }
 
-  pub digit-small : left % radix < 65536
-  digit-small = omega (arith, mod-lt left (S .parts .positive), S .parts .small)
-
   pub digit-decoded : 0 < i → Decoding r₀ whole n radix to (set r (to + (i - 1)) (left % radix)) (left / radix) (i - 1)
   unfolding copies choices number put
   digit-decoded z =

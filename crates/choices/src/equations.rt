@@ -1,7 +1,6 @@
 // The new equations of a child's picks, with an unknown replaced.
-ghost use mathlib.Core.Path.{_≡_};
 ghost use mathlib.Core.List.{_++_};
-ghost use Prim.Native.Nat.{_+_, _≤_};
+ghost use Prim.Native.Nat.{_+_};
 ghost use Rattle.room.specs.Room.{seg};
 ghost use Rattle.room.specs.Replaced.{replaced};
 ghost use Rattle.rows.specs.Wrote.{Wrote};

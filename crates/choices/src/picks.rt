@@ -1,8 +1,7 @@
 // The picks of a child's number: its digits, first those of the t's and then those of the u's, the last fastest.
-ghost use mathlib.Core.Path.{_≡_};
 ghost use mathlib.Core.List.{_++_};
 ghost use Prim.Native.Nat.{_+_, _<_};
-ghost use Rattle.room.specs.Room.{seg, Within};
+ghost use Rattle.room.specs.Room.{seg};
 ghost use Rattle.choices.specs.Digits.{copies, Decoded, Advanced, DigitParts, PickParts};
 use rows::walk::wide;
 

@@ -1,5 +1,4 @@
 // A split's equation taken apart.
-ghost use mathlib.Core.Path.{_≡_};
 ghost use Rattle.choices.specs.Open.{OpenParts, SidesOpened};
 use crate::members::note_members;
 use rows::header::HEADER;

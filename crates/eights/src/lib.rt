@@ -1,10 +1,11 @@
-// Eight words of a room copied at one go, unless one of them is a given word.
+// Words of a room copied up to a given word: eight at one go, unless one of them is that word, then one by one.
 ghost use mathlib.Core.Path.{_≡_};
 ghost use mathlib.Core.Bool.{cond};
 ghost use mathlib.Core.List.{[], _∷_};
+ghost use lib.ListN.{length};
 ghost use Rattle.room.specs.Room.{seg, put, Within};
 ghost use Rattle.room.specs.Parts.{CopyParts};
-ghost use Rattle.room.specs.Replaced.{clear};
+ghost use Rattle.room.specs.Replaced.{clear, before};
 
 // Is x none of the eight?
 fn is_none(x: u16, a: u16, b: u16, c: u16, d: u16, e: u16, f: u16, g: u16, h: u16) -> bool
@@ -83,4 +84,29 @@ pub fn copy_eight(room: &mut [u16], from: usize, x: u16, to: usize) -> bool
         return true;
     }
     false
+}
+
+// Copies those of the n words at `from` that stand before the first x, and answers how many they are: eight at a time while
+// none of the eight is x, then one by one.
+pub fn copy_before(room: &mut [u16], from: usize, n: usize, x: u16, to: usize) -> usize
+    requires { ⌜ CopyParts (now room) from n to ⌝ }
+    ensures { λ r. ⌜ r ≡ length (before x (seg (now (room .entry)) from n)) ⌝ }
+    ensures { λ _. ⌜ now (room .exit) ≡ put (now (room .entry)) to (before x (seg (now (room .entry)) from n)) ⌝ }
+{
+    let mut run = 0;
+    while 8 <= n - run {
+        if !copy_eight(room, from + run, x, to + run) {
+            break;
+        }
+        run += 8;
+    }
+    while run < n {
+        let w = room[from + run];
+        if w == x {
+            return run;
+        }
+        room[to + run] = w;
+        run += 1;
+    }
+    run
 }

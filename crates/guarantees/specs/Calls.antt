@@ -16,10 +16,10 @@ use Rattle.numerals.specs.Reading.{Reading}
 use Rattle.reader.specs.Lent.{question-into, laid, arities-of, words-of}
 use Rattle.question_reader.specs.Questions as reader
 use Rattle.writer.specs.Written.{held, question-written, list-written, text-of-list}
-use Rattle.writer.specs.declared.written.Written.{Written}
+use Rattle.results.specs.declared.written.Written.{Written}
 use Rattle.same.specs.Answering.{solves-answer}
-use Rattle.same.specs.declared.Solving.{Solving}
-use Rattle.solver.specs.Result.{Told, told, words-told}
+use Rattle.results.specs.declared.compared.Solving.{Solving}
+use Rattle.results.specs.Result.{Told, told, words-told}
 
 -- ---- what is lent
 

@@ -21,9 +21,9 @@ use Rattle.search.specs.Specimens.{computing}
 use Rattle.search.specs.Ends.{end-number}
 use Rattle.promises.specs.Wording.{NoLess}
 use Rattle.answers.specs.Fits.{Meets, Fits}
-use Rattle.solver.specs.declared.Ran.the-variants as running
-use Rattle.visits.specs.Loans.{loan, needed, ending}
-use Rattle.solver.specs.Result.{gives, told, told-within, result}
+use Rattle.results.specs.declared.ran.Ran.the-variants as running
+use Rattle.results.specs.Loans.{loan, needed, ending}
+use Rattle.results.specs.Result.{gives, told, told-within, result}
 use Rattle.guarantees.specs.Calls.{Posed, asked, Lending, loan-of, in-room, run-told, answers-after, used}
 use Rattle.guarantees.specs.Wording.{Granted, Read-once}
 use Rattle.guarantees.specs.Promised

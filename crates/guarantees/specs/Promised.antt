@@ -30,17 +30,17 @@ use Rattle.promises.specs.Wording.{NoLess}
 use Rattle.text.specs.Text.{question-text}
 use Rattle.text.specs.Sizes.{question-length}
 use Rattle.reader.specs.Lent.{answer}
-use Rattle.question_reader.specs.declared.whole.Question.the-variants as reading
+use Rattle.results.specs.declared.read.Question.the-variants as reading
 use Rattle.pen.specs.Depths.{all-within}
 use Rattle.writer.specs.Written.{too-deep-in, too-deep-in-list}
-use Rattle.writer.specs.declared.written.Written.the-variants as writing
+use Rattle.results.specs.declared.written.Written.the-variants as writing
 use Rattle.same.specs.Answering.{equal-answer}
-use Rattle.same.specs.declared.Equality.the-variants as equality
-use Rattle.same.specs.declared.Solving.the-variants as solving
-use Rattle.visits.specs.Loans.{ending}
-use Rattle.solver.specs.Result.{gives, refuses, result}
-use Rattle.visits.specs.declared.node.Ending.{Ending}
-use Rattle.solver.specs.declared.Ran.the-variants as running
+use Rattle.results.specs.declared.compared.Equality.the-variants as equality
+use Rattle.results.specs.declared.compared.Solving.the-variants as solving
+use Rattle.results.specs.Loans.{ending}
+use Rattle.results.specs.Result.{gives, refuses, result}
+use Rattle.results.specs.declared.ran.Ending.{Ending}
+use Rattle.results.specs.declared.ran.Ran.the-variants as running
 use Rattle.guarantees.specs.Calls.{Posed, asked, in-words, Lending, loan-of, in-room, run-told, answers-after, used, question-told, question-after, list-told, list-after, solves-told, text-told, arities-after, words-after}
 use Rattle.guarantees.specs.Wording.{Granted, Read-once, largest, Nests-within, Writable, Writes, Reads, question-in, Compared, Tried, One-of}
 use Rattle.guarantees.specs.Proofs.Granting as granting

@@ -14,8 +14,8 @@ use Rattle.search.specs.Run.{Outcome, ran}
 use Rattle.answers.specs.Fits.{States}
 use Rattle.text.specs.Text.{question-text}
 use Rattle.reader.specs.Lent.{answer}
-use Rattle.question_reader.specs.declared.whole.Question.the-variants.{Read}
-use Rattle.writer.specs.declared.written.Written.the-variants.{Length}
+use Rattle.results.specs.declared.read.Question.the-variants.{Read}
+use Rattle.results.specs.declared.written.Written.the-variants.{Length}
 use Rattle.guarantees.specs.Calls.{Posed, asked, Lending, loan-of, question-told, question-after, text-told, arities-after, words-after}
 
 -- ---- of runs

@@ -90,6 +90,3 @@ in-equal e h = Any-map (λ z q. ≈trans e q) h
 pub in-within : {x : Term} {ms ns : List Term} → In x ms → Within ms ns → In x ns
 in-within (here e) (both h hs) = in-equal e h
 in-within (there h) (both k ks) = in-within h ks
-
-pub within-trans : {ms ns os : List Term} → Within ms ns → Within ns os → Within ms os
-within-trans f g = All-map (λ x h. in-within h g) f

@@ -54,10 +54,6 @@ unfolding rank list
 rank-list none = all-none
 rank-list (more t ts) = both {x = t} (omega arith) (All-map (λ x h. omega arith) (rank-list ts))
 
-pub rank-argument : (k : ℕ) (ts : Terms) → All (λ t. rank t < rank (functor k ts)) (list ts)
-unfolding rank
-rank-argument k ts = All-map (λ t h. omega arith) (rank-list ts)
-
 -- does the unknown x occur inside: in a member, or in an argument of the kernel?
 unfoldable pub occurs-inside : ℕ → Term → Bool
 occurs-inside x (unknown i) = false

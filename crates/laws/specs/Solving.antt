@@ -1,18 +1,18 @@
 -- Values that solve a question: the test agrees with the laws, only the values of the question's own unknowns count, and how ground values
 -- are made: from a row of ground terms, by giving one unknown a new value, and of the parts of ground terms.
 use Prim.Native.Nat.{ℕ, suc, zero, _<_}
-use mathlib.Core.Path.{_≡_, sym}
-use mathlib.Core.List.{List, [], _∷_, append-nil}
+use mathlib.Core.Path.{_≡_}
+use mathlib.Core.List.{List, [], _∷_}
 use mathlib.Core.Bool.{Bool, true, false, cond}
 use mathlib.Core.Logic.{_↔_}
 use lib.Dec.{eqb}
 use lib.ListN.{getD}
 use Rattle.terms.specs.Lists.{All, none as all-none, both, all→, →all, All-map}
-use Rattle.terms.specs.Term.{Term, empty, members, kernel, over}
-use Rattle.terms.specs.Formed.{Formed, formed-unknown, formed-empty, formed-with, formed-functor, Ground, Equation, sides}
+use Rattle.terms.specs.Term.{Term, empty}
+use Rattle.terms.specs.Formed.{Formed, formed-empty, Ground, Equation, sides}
 use Rattle.laws.specs.Laws.{_≈_, ≈sym, ≈trans}
 use Rattle.laws.specs.Agree.{agree}
-use Rattle.laws.specs.Values.{Values, value, given, in-order, Extends, GroundValues, Holds, Solves, holds-test, solves-test}
+use Rattle.laws.specs.Values.{Values, value, given, in-order, GroundValues, Holds, Solves, holds-test, solves-test}
 use Rattle.laws.specs.Substitution.{value-below}
 
 pub holds-agree : (σ : Values) (e : Equation) → Holds σ e ↔ (holds-test σ e ≡ true)
@@ -28,9 +28,6 @@ pub solves-below : {arities : List ℕ} {n : ℕ} (σ τ : Values) (es : List Eq
 unfolding sides
 solves-below σ τ [] f h all-none = all-none
 solves-below σ τ (e ∷ es) (both l (both r f)) h (both k ks) = both (≈trans (≈sym (value-below σ τ l h)) (≈trans k (value-below σ τ r h))) (solves-below σ τ es f h ks)
-
-pub extends-itself : (table : List ℕ) → Extends table table
-extends-itself table = record { more-functors = []; begins = sym (append-nil table) }
 
 pub ground-given : {table : List ℕ} (x : ℕ) {v : Term} {σ : Values} → Ground table v → GroundValues table σ → GroundValues table (given x v σ)
 unfolding given

@@ -12,7 +12,7 @@ use Rattle.terms.specs.Formed.{Formed}
 use Rattle.laws.specs.Laws.{_≈_, ≈refl, ≈sym, ≈trans, In, Within}
 use Rattle.laws.specs.Equal.{is-in}
 use Rattle.laws.specs.Agree.{apart, is-in-agree}
-use Rattle.laws.specs.Apart.{kernel-≈, in-nothing}
+use Rattle.laws.specs.Apart.{kernel-≈}
 use Rattle.laws.specs.Members.{members-over, kernel-over, over-append, rebuild, over-≈, same-members, absorbed, within-self, in-equal}
 use Rattle.terms.specs.Members.{formed-members, formed-kernel, formed-over}
 
@@ -109,13 +109,6 @@ unfolding those-in is-in any
 those-in-bare r [] e = refl
 those-in-bare r (t ∷ ts) e = rw e (those-in-bare r ts e)
 
-pub bare-picks : {ts us : List Term} (r : Term) → members r ≡ [] → All (λ t. In t us ⊎ In t (members r)) ts → Within ts us
-bare-picks {us = us} r e h = All-map go h
-  where
-    go : (t : Term) → In t us ⊎ In t (members r) → In t us
-    go t (inl k) = k
-    go t (inr k) = absurd (in-nothing (rw e at k))
-
 module _ {ts us : List Term} {s r : Term} where
   -- only one tail is an unknown: the other has no members
   pub complete-left : Met ts us s r → members r ≡ [] → s ≈ over (those-in s us) r
@@ -147,17 +140,6 @@ sound-different {ts} {us} {T} {U} {s} {r} n f g ht hu hs hr =
 
     both-in : {xs ms ns ys : List Term} → All (λ a. In a ms ⊎ In a ns) xs → Within ys ms → Within (xs ++ ys) (ms ++ ns)
     both-in {ms = ms} {ns = ns} h k = All-append (All-map (in-either ms ns) h) (All-map (λ d l. Any-left ns l) k)
-
-picked-none : {ts us T : List Term} → Within ts us → All (λ t. In t us ⊎ In t T) ts
-picked-none h = All-map (λ t k. inl k) h
-
-pub sound-left : {ts us U : List Term} {s : Term} (r : Term) → Within U us → Within ts us → All (λ u. In u ts ⊎ In u U) us → s ≈ over U r → over ts s ≈ over us r
-unfolding over
-sound-left r g ht hu hs = sound-different {T = []} r all-none g (picked-none ht) hu hs ≈refl
-
-pub sound-right : {ts us T : List Term} (s : Term) {r : Term} → Within T ts → All (λ t. In t us ⊎ In t T) ts → Within us ts → r ≈ over T s → over ts s ≈ over us r
-unfolding over
-sound-right s f ht hu hr = sound-different {U = []} s f all-none ht (picked-none hu) ≈refl hr
 
 pub sound-same : {ts us T U : List Term} (x : Term) → Within T ts → Within U us → All (λ t. In t us ⊎ In t T) ts → All (λ u. In u ts ⊎ In u U) us
     → x ≈ over (T ++ U) x → over ts x ≈ over us x

@@ -8,7 +8,7 @@ use lib.Dec.{eqb}
 use lib.ListN.{getD}
 use Rattle.terms.specs.Lists.{All, all}
 use Rattle.terms.specs.Term.{Term, Terms, unknown, empty, with, functor, none, more}
-use Rattle.terms.specs.Formed.{Ground, Equation, Question}
+use Rattle.terms.specs.Formed.{Ground, Equation}
 use Rattle.laws.specs.Laws.{_≈_}
 use Rattle.laws.specs.Equal.{equal}
 
@@ -49,11 +49,6 @@ Holds σ e = value σ (e .left) ≈ value σ (e .right)
 
 abbrev pub Solves : Values → List Equation → Type 0
 Solves σ es = All (Holds σ) es
-
-pub record Solution (table : List ℕ) (q : Question) (σ : Values) : Type 0 where
-  pub extends : Extends (q .arities) table
-  pub ground : GroundValues table σ
-  pub solves : Solves σ (q .equations)
 
 -- the same as a test
 unfoldable pub holds-test : Values → Equation → Bool

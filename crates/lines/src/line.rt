@@ -1,5 +1,4 @@
 // Lines: a key, a value and one LF.
-ghost use mathlib.Core.List.{[], _∷_};
 ghost use Rattle.terms.specs.Bounds.{edition-one};
 ghost use Rattle.text.specs.Text.{decimal, line};
 ghost use Rattle.lines.specs.Lines.{term-line};

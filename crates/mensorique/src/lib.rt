@@ -23,19 +23,19 @@ ghost use Rattle.text.specs.Text.{question-text};
 ghost use Rattle.reader.specs.Lent.{ReadGives, question-into};
 ghost use Rattle.writer.specs.Written.{held, question-written, list-written, text-of-list};
 ghost use Rattle.same.specs.Answering.{equal-answer, solves-answer};
-ghost use Rattle.solver.specs.Result.{RunGives, told};
-pub use question_reader::whole::Question;
-pub use record::Record;
-pub use same::Equality;
-pub use same::Solving;
+ghost use Rattle.results.specs.Result.{RunGives, told};
+pub use results::compared::Equality;
+pub use results::compared::Solving;
+pub use results::ran::Ending;
+pub use results::ran::Ran;
+pub use results::ran::Record;
+pub use results::read::Question;
+pub use results::written::Written;
 pub use search::ends::End;
 pub use search::ends::number_of_end;
-pub use solver::Ran;
 pub use terms::refusal::Cause;
 pub use terms::refusal::Refusal;
 pub use terms::refusal::number_of;
-pub use visits::node::Ending;
-pub use writer::written::Written;
 
 // Reads a question's text.
 //   Lent: the text; a buffer for arities, of which 256 always suffice; a buffer for words, of which 4,096 always suffice.
@@ -86,7 +86,7 @@ pub fn write_answers(
     ensures told { λ r. ⌜ r ≡ list-written edition-one (now (arities .entry)) end visited answers (now (words .entry)) (length (now (text .entry))) ⌝ }
     ensures text { λ r. ⌜ now (text .exit) ≡ held r (text-of-list (end-of end) visited (answers-of edition-one (now (arities .entry)) answers (now (words .entry)))) (now (text .entry)) ⌝ }
 {
-    writer::list::write_answers(arities, end, visited, answers, words, text)
+    list_writer::list::write_answers(arities, end, visited, answers, words, text)
 }
 
 // Are two ground terms equal by the laws?

@@ -34,7 +34,7 @@ use Rattle.only_child.specs.declared.next.Next.{Next}
 use Rattle.only_child.specs.declared.next.Next.the-variants.{Spent}
 use Rattle.pick_loop.specs.Picks.{left-open, right-open, place, Picks, PicksAt, Picked}
 use Rattle.pick_loop.specs.Shown.{Opened, Opens}
-use Rattle.openings.specs.Sides.{sides-in, SidesParts}
+use Rattle.noted_sides.specs.Sides.{sides-in, SidesParts}
 use Rattle.openings.specs.Splitting.{Splitting}
 use Rattle.pick_loop.proofs.Advancing.{advance-parts, advanced-long, advanced-before, advanced-told, further, advanced, one-further, none-further}
 use Rattle.openings.proofs.Opening.{Noted, parent, opened, picks-of, all-of, opens-none, opens-from}

@@ -23,7 +23,7 @@ use Rattle.choices.specs.Opened.{Parent, Opened, few-members}
 use Rattle.only_child.specs.declared.next.Next.{Next}
 use Rattle.only_child.specs.declared.next.Next.the-variants.{Spent}
 use Rattle.pick_loop.specs.Picks.{left-open, right-open, all-children, place, Picks, Picked}
-use Rattle.openings.specs.Sides.{numbers-of, NumberParts}
+use Rattle.noted_sides.specs.Sides.{numbers-of, NumberParts}
 use Rattle.pick_loop.specs.Shown.{Opens}
 use Rattle.openings.specs.Splitting.{Splitting}
 use Rattle.pick_loop.proofs.Numbering.{Parts, digits-parts, place-is, how-many}

@@ -1,2 +1,1 @@
-pub mod Sides
 pub mod Splitting

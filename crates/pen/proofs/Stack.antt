@@ -1,13 +1,13 @@
 -- Laws of the stack of open brackets: its top, a bracket put on it or changed; and the turns of the loop that closes brackets.
 use Prim.Native.Nat.{ℕ, zero, suc, _+_, _-_, _≤_, _<_}
-use native.Mathlib.Numerals.{add-one, sub-one}
+use native.Mathlib.Numerals.{add-one}
 use native.Mathlib.Omega.{arith}
 use mathlib.Core.Path.{_≡_, refl, sym, ap, _∙_}
-use mathlib.Core.List.{List, [], _∷_, _++_}
+use mathlib.Core.List.{List, [], _∷_}
 use lib.ListN.{length, getD, set, length-set}
 use lib.Seq.{getD-set-other, getD-set-same}
 use Rattle.pen.specs.Pen.{most, Wrote}
-use Rattle.pen.specs.Opened.{Bracket, member, rest, tail, argument, closing, closed, bracket, brackets, Holds}
+use Rattle.pen.specs.Opened.{Bracket, closing, closed, bracket, brackets, Holds}
 use Rattle.pen.specs.Writing.{wrote-nothing, wrote-then, wrote-as, length-wrote, next-most}
 
 pub length-brackets : (stack : List ℕ) (d : ℕ) → length (brackets stack d) ≡ d

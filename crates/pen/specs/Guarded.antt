@@ -1,25 +1,18 @@
 -- A walk that stops at the first bracket too deep: its laws, and what each kind of word does in a walk.
-use Prim.Native.Nat.{ℕ, zero, suc, _+_, _-_, _≤_, _<_}
+use Prim.Native.Nat.{ℕ, suc, _+_, _-_, _<_}
 use native.Mathlib.Nat.{add-zero}
-use native.Mathlib.Numerals.{add-one}
 use native.Mathlib.Omega.{arith}
-use mathlib.Core.Path.{_≡_, refl, sym, ap, _∙_}
-use mathlib.Core.Bool.{Bool, true, false}
-use mathlib.Core.List.{List, [], _∷_, _++_, append-assoc, append-nil}
+use mathlib.Core.Path.{_≡_, refl}
+use mathlib.Core.List.{List, [], _∷_, _++_, append-assoc}
 use lib.Dec.{ltb}
-use lib.ListN.{length, getD, length-append}
-use borrow.Author.Tests.{eq-eqb, ne-eqb, lt-ltb, le-ltb, ltb-true, ltb-false}
-use Rattle.terms.specs.Lists.{cases, All}
+use lib.ListN.{length, getD}
+use borrow.Author.Tests.{ne-eqb, lt-ltb, le-ltb, ltb-true, ltb-false}
+use Rattle.terms.specs.Lists.{cases}
 use Rattle.terms.specs.Lists as lists
 use Rattle.terms.specs.Bounds.{Bounds, Proper}
-use Rattle.terms.specs.Kind.{Worded}
-use Rattle.terms.specs.Term.{Term, Terms, unknown, empty, with, functor, none, more, words, words*, size, size*, count}
-use Rattle.terms.specs.Formed.{Formed, Formed*, formed-unknown, formed-empty, formed-with, formed-functor, formed-none, formed-more, row}
-use Rattle.text.specs.Text.{text, after-member, arguments, after-argument, unknown-name, functor-name, choose}
-use Rattle.pen.specs.Opened.{Bracket, member, rest, tail, argument, closing, closed}
-use Rattle.pen.specs.Depths.{depths, rest-depths, argument-depths, further-depths, row-depths, First, all-within, first-at, found, first-above}
-use Rattle.pen.specs.Walk.{Writes, writes, deep, after, opens, begins, continues, word, symbol, Walk, ended, too-deep, prepend, onward, next, walk}
-use Rattle.pen.specs.declared.begin.Symbol.{Symbol}
+use Rattle.text.specs.Text.{choose}
+use Rattle.pen.specs.Opened.{Bracket}
+use Rattle.pen.specs.Walk.{Writes, writes, deep, after, opens, symbol, Walk, ended, too-deep, prepend, onward, next}
 use Rattle.pen.specs.declared.begin.Symbol.the-variants.{Empty, Adding, Unknown, Functor}
 
 -- ---- a walk that stops at the first bracket too deep, and goes on where there is none

@@ -2,13 +2,13 @@
 use Prim.Native.Nat.{ℕ, _≤_}
 use native.Mathlib.Omega.{arith}
 use mathlib.Core.Path.{_≡_, refl, sym, ap, _∙_}
-use mathlib.Core.List.{List, [], _∷_, _++_}
+use mathlib.Core.List.{List, []}
 use lib.ListN.{length}
 use Rattle.pen.specs.Pen.{most, Wrote}
 use Rattle.pen.specs.Walk.{Walk, ended, too-deep, prepend, then, Passed, was-ended, was-too-deep}
 use Rattle.pen.specs.declared.put.Passage.{Passage}
 use Rattle.pen.specs.declared.put.Passage.the-variants.{To, TooDeep}
-use Rattle.pen.specs.Writing.{wrote-nothing, wrote-then, wrote-as, length-wrote, next-most}
+use Rattle.pen.specs.Writing.{wrote-nothing, wrote-then, length-wrote, next-most}
 
 pub passed-as : {text₀ text : List ℕ} {at : ℕ} {x y : Walk} {r : Passage} → x ≡ y → Passed text₀ at x r text → Passed text₀ at y r text
 passed-as e p = rw e at p

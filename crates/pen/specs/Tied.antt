@@ -1,18 +1,18 @@
 -- The walk over the words of a formed term writes the text of the term, or stops at the first word whose bracket stands too deep.
-use Prim.Native.Nat.{ℕ, zero, suc, _+_, _<_}
+use Prim.Native.Nat.{ℕ, suc, _+_}
 use native.Mathlib.Nat.{add-zero}
 use native.Mathlib.Omega.{arith}
 use mathlib.Core.Path.{_≡_, refl, sym, ap, _∙_}
 use mathlib.Core.List.{List, [], _∷_, _++_, append-assoc, append-nil}
-use lib.ListN.{length, getD, length-append}
+use lib.ListN.{length, length-append}
 use Rattle.terms.specs.Bounds.{Bounds}
 use Rattle.terms.specs.Kind.{Worded}
 use Rattle.terms.specs.Term.{Term, Terms, unknown, empty, with, functor, none, more, words, words*, size, size*, count}
-use Rattle.terms.specs.Formed.{Formed, Formed*, formed-unknown, formed-empty, formed-with, formed-functor, formed-none, formed-more, row}
+use Rattle.terms.specs.Formed.{Formed, Formed*, formed-unknown, formed-empty, formed-with, formed-functor, formed-none, formed-more}
 use Rattle.text.specs.Text.{text, after-member, arguments, after-argument, unknown-name, functor-name}
 use Rattle.pen.specs.Opened.{Bracket, member, rest, tail, argument, closing, closed}
 use Rattle.pen.specs.Depths.{depths, rest-depths, argument-depths, further-depths}
-use Rattle.pen.specs.Walk.{writes, opens, begins, continues, word, symbol, after, Walk, prepend, onward, next, walk}
+use Rattle.pen.specs.Walk.{writes, opens, begins, continues, word, symbol, Walk, prepend, onward, next, walk}
 use Rattle.pen.specs.declared.begin.Symbol.{Symbol}
 use Rattle.pen.specs.declared.begin.Symbol.the-variants.{Empty, Adding, Unknown, Functor}
 use Rattle.pen.specs.Guarded.{guard, guard-append, guard-prepend, guard-none, prepend-append, prepend-nothing, symbol-empty, symbol-adding, symbol-unknown, symbol-functor, next-after, next-opens}

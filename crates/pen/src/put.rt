@@ -1,6 +1,6 @@
 // Bytes written one after the other: each function writes at a place of the buffer and answers the next place. What lies past the buffer's
 // end is counted and not written, so that one function both measures and writes.
-ghost use mathlib.Core.List.{List, [], _∷_};
+ghost use mathlib.Core.List.{[], _∷_};
 ghost use Rattle.text.specs.Text.{decimal};
 ghost use Rattle.pen.specs.Pen.{Wrote};
 

@@ -1,5 +1,4 @@
 // The only child of a state whose first equation leaves no choice.
-ghost use mathlib.Core.Path.{_≡_};
 ghost use Rattle.plain_steps.specs.Only.{StepAt, Taken};
 use crate::single::decompose;
 use crate::single::postpone;

@@ -1,6 +1,6 @@
 // Steps that leave no choice, and that no function of `bind` or `keep` is by itself: an equation is postponed, or replaced by its argument equations.
 ghost use mathlib.Core.Path.{_≡_};
-ghost use mathlib.Core.List.{_∷_, _++_};
+ghost use mathlib.Core.List.{_++_};
 ghost use lib.ListN.{length};
 ghost use Prim.Native.Nat.{_+_};
 ghost use Rattle.room.specs.Room.{seg, put};

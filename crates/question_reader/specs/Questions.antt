@@ -11,8 +11,8 @@ use Rattle.numerals.specs.Reading.{Reading, read, refused, fault, and-then}
 use Rattle.numerals.specs.Bytes.{byte, meets, line-feed, stopped}
 use Rattle.term_reader.specs.Terms.{whole-term}
 use Rattle.header_reader.specs.Header.{Header, header}
-use Rattle.question_reader.specs.declared.whole.Question.{Question}
-use Rattle.question_reader.specs.declared.whole.Question.the-variants.{Read, Refused}
+use Rattle.results.specs.declared.read.Question.{Question}
+use Rattle.results.specs.declared.read.Question.the-variants.{Read, Refused}
 
 module _ (b : Bounds) (s : List ℕ) (unknowns : ℕ) (arities : List ℕ) where
   -- one side of an equation: its key, a term, and LF

@@ -13,6 +13,7 @@ use numerals::bytes;
 use numerals::bytes::Met;
 use numerals::bytes::meet;
 use numerals::bytes::peek;
+use results::read::Question;
 use term_reader::term::Got;
 use term_reader::term::read_term;
 use terms::refusal::Cause;
@@ -98,12 +99,6 @@ fn read_equations(
         cause: Cause::Byte,
         place: p,
     })
-}
-
-pub enum Question {
-    // unknowns, functors, equations, words
-    Read(usize, usize, usize, usize),
-    Refused(Refusal),
 }
 
 // The whole text, with its arities and its words at the start of a slice each.

@@ -12,8 +12,8 @@ use Rattle.terms.specs.declared.refusal.Refusal.{Refusal}
 use Rattle.numerals.specs.Reading.{read, refused, then-read, then-refused}
 use Rattle.question_reader.specs.Questions.{Asked, question, of-question, Counts}
 use Rattle.reader.specs.Lent.{fitted, question-into, answer, laid, arities-of, words-of, ReadGives}
-use Rattle.question_reader.specs.declared.whole.Question.{Question}
-use Rattle.question_reader.specs.declared.whole.Question.the-variants.{Read, Refused}
+use Rattle.results.specs.declared.read.Question.{Question}
+use Rattle.results.specs.declared.read.Question.the-variants.{Read, Refused}
 
 -- what the entry gives, of a text s and buffers that held ns and ws: its answer, and what they hold now
 abbrev pub Gives : Bounds → List ℕ → List ℕ → List ℕ → Question → List ℕ → List ℕ → Type 0

@@ -8,8 +8,8 @@ use Rattle.terms.specs.Bounds.{Bounds}
 use Rattle.terms.specs.declared.refusal.Cause.the-variants.{Buffer}
 use Rattle.text.specs.Text.{choose}
 use Rattle.numerals.specs.Reading.{Reading, read, refused, fault, and-then}
-use Rattle.question_reader.specs.declared.whole.Question.{Question}
-use Rattle.question_reader.specs.declared.whole.Question.the-variants.{Read, Refused}
+use Rattle.results.specs.declared.read.Question.{Question}
+use Rattle.results.specs.declared.read.Question.the-variants.{Read, Refused}
 use Rattle.question_reader.specs.Questions.{Asked, question}
 
 -- refusal 7 comes last: the arities' buffer first, then the words'

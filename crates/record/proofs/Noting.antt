@@ -10,7 +10,7 @@ use Rattle.room.specs.Room.{put, length-seg, put-nil}
 use Rattle.terms.specs.Answers.{listed}
 use Rattle.rows.specs.declared.header.Header.{Header}
 use Rattle.rows.specs.First.{header-in}
-use Rattle.record.specs.declared.Record.{Record}
+use Rattle.results.specs.declared.ran.Record.{Record}
 use Rattle.record.specs.declared.Noted.{Noted}
 use Rattle.record.specs.declared.Noted.the-variants.{Held, Space}
 use Rattle.record.specs.Counts.{noted, listed-by, answer-in, with-answers, fits, note-by, held-by}

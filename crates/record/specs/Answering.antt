@@ -21,7 +21,7 @@ use Rattle.rows.specs.First.{header-in}
 use Rattle.rows.specs.Pile.{pile-words}
 use Rattle.rows.specs.States.{pending-words, body-words}
 use Rattle.rows.specs.Row.{Holds, header-for, state-words}
-use Rattle.record.specs.declared.Record.{Record}
+use Rattle.results.specs.declared.ran.Record.{Record}
 use Rattle.record.specs.Counts.{listed-by, answer-in, Notable}
 
 -- ---- read from its header

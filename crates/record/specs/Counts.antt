@@ -7,7 +7,7 @@ use lib.Dec.{eqb, leb}
 use lib.ListN.{length, getD}
 use Rattle.room.specs.Room.{seg, put}
 use Rattle.terms.specs.Answers.{listed}
-use Rattle.record.specs.declared.Record.{Record}
+use Rattle.results.specs.declared.ran.Record.{Record}
 use Rattle.record.specs.declared.Noted.{Noted}
 use Rattle.record.specs.declared.Noted.the-variants.{Held, Space}
 

@@ -7,14 +7,9 @@ ghost use Prim.Native.Nat.{_+_, _≤_, _<_, _^_};
 ghost use lib.ListN.{length};
 ghost use Rattle.room.specs.Room.{put};
 ghost use Rattle.record.specs.Counts.{counted, noted, answer-in, Notable, listed-by, note-by, held-by};
+use results::ran::Record;
 use rows::first::read_header;
 use rows::header::HEADER;
-
-pub struct Record {
-    pub visited: u64,
-    pub answers: u64,
-    pub words: usize,
-}
 
 // So many nodes more were visited.
 pub fn count_nodes(counts: &mut Record, nodes: u64)

@@ -129,7 +129,3 @@ told-append capacity a b h =
     (λ t.
     let f = leb-false (length b) (capacity - length a) t in
     rw (told-of-lt capacity (a ++ b) (omega arith), told-of-lt (capacity - length a) b f))
-
--- the first is too long already
-pub told-append-full : (capacity : ℕ) (a b : List ℕ) → told capacity a ≡ Full → told capacity (a ++ b) ≡ Full
-told-append-full capacity a b f = told-of-lt capacity (a ++ b) (omega (arith, length-append a b, told-full capacity a f))

@@ -3,38 +3,12 @@
 // A client's contracts cite `specs/Fitting.antt`, and `Replaced` and `Parts` of `room`.
 ghost use mathlib.Core.Path.{_≡_};
 ghost use Prim.Native.Nat.{min};
-ghost use lib.ListN.{length};
 ghost use Rattle.room.specs.Room.{seg, put};
-ghost use Rattle.room.specs.Parts.{CopyParts, ReplaceParts};
-ghost use Rattle.room.specs.Replaced.{replaced, before};
+ghost use Rattle.room.specs.Parts.{ReplaceParts};
+ghost use Rattle.room.specs.Replaced.{replaced};
 ghost use Rattle.replace.specs.Fitting.{fitting, told};
-use eights::copy_eight;
+use eights::copy_before;
 use room::copy;
-
-// Copies those of the n words at `from` that stand before the first x, and answers how many they are: eight at a time while
-// none of the eight is x, then one by one.
-fn copy_before(room: &mut [u16], from: usize, n: usize, x: u16, to: usize) -> usize
-    requires { ⌜ CopyParts (now room) from n to ⌝ }
-    ensures { λ r. ⌜ r ≡ length (before x (seg (now (room .entry)) from n)) ⌝ }
-    ensures { λ _. ⌜ now (room .exit) ≡ put (now (room .entry)) to (before x (seg (now (room .entry)) from n)) ⌝ }
-{
-    let mut run = 0;
-    while 8 <= n - run {
-        if !copy_eight(room, from + run, x, to + run) {
-            break;
-        }
-        run += 8;
-    }
-    while run < n {
-        let w = room[from + run];
-        if w == x {
-            return run;
-        }
-        room[to + run] = w;
-        run += 1;
-    }
-    run
-}
 
 fn smaller(a: usize, b: usize) -> usize
     ensures { λ r. ⌜ r ≡ min a b ⌝ }

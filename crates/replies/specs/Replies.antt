@@ -6,16 +6,16 @@ use mathlib.Core.List.{List, [], _∷_}
 use Rattle.terms.specs.Refusal.{number}
 use Rattle.terms.specs.declared.refusal.Refusal.{Refusal}
 use Rattle.search.specs.Ends.{end-number}
-use Rattle.question_reader.specs.declared.whole.Question.{Question}
-use Rattle.question_reader.specs.declared.whole.Question.the-variants as question
-use Rattle.writer.specs.declared.written.Written.{Written}
-use Rattle.writer.specs.declared.written.Written.the-variants as written
-use Rattle.same.specs.declared.Equality.{Equality}
-use Rattle.same.specs.declared.Equality.the-variants as equality
-use Rattle.same.specs.declared.Solving.{Solving}
-use Rattle.same.specs.declared.Solving.the-variants as solving
-use Rattle.solver.specs.declared.Ran.{Ran}
-use Rattle.solver.specs.declared.Ran.the-variants as ran
+use Rattle.results.specs.declared.read.Question.{Question}
+use Rattle.results.specs.declared.read.Question.the-variants as question
+use Rattle.results.specs.declared.written.Written.{Written}
+use Rattle.results.specs.declared.written.Written.the-variants as written
+use Rattle.results.specs.declared.compared.Equality.{Equality}
+use Rattle.results.specs.declared.compared.Equality.the-variants as equality
+use Rattle.results.specs.declared.compared.Solving.{Solving}
+use Rattle.results.specs.declared.compared.Solving.the-variants as solving
+use Rattle.results.specs.declared.ran.Ran.{Ran}
+use Rattle.results.specs.declared.ran.Ran.the-variants as ran
 
 pub data Reply : Type 0 where
   granted : (numbers : List ℕ) → Reply

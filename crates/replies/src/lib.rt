@@ -1,19 +1,19 @@
 // What an answer is told as to C: which status and which out numbers it gives. A granted call has status 0, its out numbers are written, and the place is
 // left alone; a refused one has the refusal's number for status, and the place alone is written. `mensorique_c` has the calls.
 //
-// In specs/, `Replies` has the definitions and `Calls` what a call that lends buffers gives, which a client's contracts cite.
+// In specs/, `Replies` has the definitions, `Room` the words of a run's room.
 ghost use mathlib.Core.Path.{_≡_};
 ghost use mathlib.Core.List.{[], _∷_};
 ghost use Rattle.terms.specs.Refusal.{number};
 ghost use Rattle.replies.specs.Replies.{Replied, of-question, of-written, of-equality, of-solving, of-ran};
-use question_reader::whole::Question;
-use same::Equality;
-use same::Solving;
+use results::compared::Equality;
+use results::compared::Solving;
+use results::ran::Ran;
+use results::read::Question;
+use results::written::Written;
 use search::ends::number_of_end;
-use solver::Ran;
 use terms::refusal::Refusal;
 use terms::refusal::number_of;
-use writer::written::Written;
 
 // A refusal's number, with its place written.
 fn tell_refusal(refusal: Refusal, place: &mut usize) -> u32

@@ -3,11 +3,9 @@
 -- In order: `Apart` and its laws; rows of one width; the frame, for a word, a part and another `put`; and the records of
 -- where the parts of a copy and of a replacement lie, which the functions of this crate require.
 use mathlib.Core.Path.{_≡_, refl, ap, _∙_}
-use mathlib.Core.Logic.{_≢_}
 use mathlib.Core.List.{List, [], _∷_}
 use Prim.Native.Nat.{ℕ, suc, _+_, _*_, _≤_, _<_}
 use native.Mathlib.Omega.{arith}
-use native.Mathlib.Decide.{decLt}
 use native.Mathlib.Nat.{suc-mul, mul-le-mul-right}
 use lib.ListN.{length, drop, getD, set, length-take, length-drop}
 use lib.Seq.{getD-drop, getD-take, getD-set-other, set-comm, ext-getD}
@@ -18,10 +16,6 @@ pub data Apart (k n i m : ℕ) : Type 0 where
   earlier : k + n ≤ i → Apart k n i m
   later : i + m ≤ k → Apart k n i m
 
-pub apart-sym : {k n i m : ℕ} → Apart k n i m → Apart i m k n
-apart-sym (earlier h) = later h
-apart-sym (later h) = earlier h
-
 -- a part of each
 pub apart-part : {k n i m k′ n′ i′ m′ : ℕ} → Apart k n i m → k ≤ k′ → k′ + n′ ≤ k + n → i ≤ i′ → i′ + m′ ≤ i + m → Apart k′ n′ i′ m′
 apart-part (earlier h) a b c d = earlier (omega arith)
@@ -31,13 +25,6 @@ apart-part (later h) a b c d = later (omega arith)
 
 pub row-within : (w : ℕ) {i rows n : ℕ} → i < rows → rows * w ≤ n → i * w + w ≤ n
 row-within w {i} h f = omega (arith, suc-mul i w, mul-le-mul-right w h)
-
-pub apart-rows : (w : ℕ) {i j : ℕ} → i ≢ j → Apart (i * w) w (j * w) w
-apart-rows w {i} {j} differ = by-order (decLt i j)
-  where
-    by-order : Dec (i < j) → Apart (i * w) w (j * w) w
-    by-order (yes h) = earlier (row-within w {rows = j} h (omega arith))
-    by-order (no h) = later (row-within w {rows = i} (omega arith) (omega arith))
 
 -- ---- the frame: what is put apart from it leaves a word and a part as they were
 

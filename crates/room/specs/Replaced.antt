@@ -3,9 +3,9 @@
 --
 -- In order: the definitions; one step; two sources joined; how long the result is; nothing to replace, before and after;
 -- lists without x; the words before the first x. Not here: as much of the result as fits a capacity (`Fitting`).
-use mathlib.Core.Path.{_≡_, refl, sym, ap, _∙_}
+use mathlib.Core.Path.{_≡_, refl, sym, ap}
 use mathlib.Core.Bool.{Bool, true, false, cond, false≢true}
-use mathlib.Core.List.{List, [], _∷_, _++_, append-assoc, append-nil}
+use mathlib.Core.List.{List, [], _∷_, _++_, append-assoc}
 use Prim.Native.Nat.{ℕ, zero, suc, _+_, _*_, _≤_, _<_}
 use native.Mathlib.Omega.{arith}
 use native.Mathlib.Nat.{zero-mul, suc-mul}
@@ -72,11 +72,6 @@ module _ (x : ℕ) (ws : List ℕ) where
   unfolding replaced
   replaced-append [] t = refl
   replaced-append (w ∷ s) t = rw (replaced-append s t) (sym (append-assoc (image x ws w) (replaced x ws s) (replaced x ws t)))
-
-  -- one word more at the end
-  pub replaced-more : (s : List ℕ) (w : ℕ) → replaced x ws (s ++ (w ∷ [])) ≡ replaced x ws s ++ image x ws w
-  unfolding replaced
-  replaced-more s w = replaced-append s (w ∷ []) ∙ ap (λ (r : List ℕ). replaced x ws s ++ r) (append-nil (image x ws w))
 
   -- ---- how long the result is
 

@@ -7,14 +7,14 @@
 --
 -- Not here: what is put apart from what is read or put elsewhere (`Parts`); laws of `take`, `drop`, `set`, `getD` (`lib.Seq`).
 -- `put` keeps the length whatever is put, so a law has a condition only where it reads or writes up to the end of a part.
-use mathlib.Core.Path.{_≡_, refl, sym, ap, _∙_}
+use mathlib.Core.Path.{_≡_, refl, ap, _∙_}
 use mathlib.Core.List.{List, [], _∷_, _++_, append-assoc}
 use Prim.Native.Nat.{ℕ, zero, suc, _+_, _-_, _≤_, _<_}
 use native.Mathlib.Omega.{arith}
 use native.Mathlib.Nat.{zero-add, add-zero, add-suc, suc-add}
 use native.Mathlib.Numerals.{add-one}
 use lib.ListN.{length, take, drop, getD, set, length-set, length-drop, take-append-drop}
-use lib.Seq.{sets, length-sets, sets-eq, length-take-le, take-length, take-nil, take-suc, take-take, take-add, take-append-seam, take-append-le, drop-cons, drop-drop, drop-at, drop-append-le, drop-append-add, getD-drop, getD-take, set-comm, set-set, drop-set-add, take-set-lt}
+use lib.Seq.{sets, length-sets, sets-eq, length-take-le, take-length, take-nil, take-suc, take-take, take-add, take-append-seam, drop-cons, drop-drop, drop-at, getD-drop, getD-take, set-comm, set-set, drop-set-add, take-set-lt}
 
 unfoldable pub seg : List ℕ → ℕ → ℕ → List ℕ
 seg l k n = take n (drop k l)
@@ -99,15 +99,6 @@ getD-seg l k n i h = rw (getD-take n (drop k l) i 0 h, getD-drop)
 
 -- ---- a part of two lists joined
 
-pub seg-left : (xs ys : List ℕ) (k n : ℕ) → Within xs k n → seg (xs ++ ys) k n ≡ seg xs k n
-unfolding seg
-seg-left xs ys k n h =
-    rw (drop-append-le k xs ys (omega arith), take-append-le n (drop k xs) ys (simp length-drop (omega arith)))
-
-pub seg-right : (xs ys : List ℕ) (k n : ℕ) → seg (xs ++ ys) (length xs + k) n ≡ seg ys k n
-unfolding seg
-seg-right xs ys k n = rw drop-append-add
-
 -- ---- words put, and words put after them
 
 pub put-nil : (l : List ℕ) (i : ℕ) → put l i [] ≡ l
@@ -169,15 +160,6 @@ pub seg-put-same : (vs l : List ℕ) (i : ℕ) → Within l i (length vs) → se
 unfolding seg
 seg-put-same vs l i h =
     rw (put-eq l i vs h, append-assoc, drop-at (take i l) (vs ++ drop (i + length vs) l) i (length-take-le i l (omega arith))) (take-append-seam vs _)
-
--- a part of what was put
-pub seg-put-part : (vs l : List ℕ) (i j n : ℕ) → Within l i (length vs) → Within vs j n → seg (put l i vs) (i + j) n ≡ seg vs j n
-seg-put-part vs l i j n h f =
-    sym (seg-seg (put l i vs) i (length vs) j n f) ∙ ap (λ (r : List ℕ). seg r j n) (seg-put-same vs l i h)
-
-pub getD-put-same : (vs l : List ℕ) (i j : ℕ) → Within l i (length vs) → j < length vs → getD (put l i vs) (i + j) 0 ≡ getD vs j 0
-getD-put-same vs l i j h f =
-    sym (getD-seg (put l i vs) i (length vs) j f) ∙ ap (λ (r : List ℕ). getD r j 0) (seg-put-same vs l i h)
 
 -- a word stored inside the part that is read, and words put there
 pub seg-set-inside : (l : List ℕ) (k n i v : ℕ) → i < n → seg (set l (k + i) v) k n ≡ set (seg l k n) i v

@@ -1,46 +1,37 @@
 -- What the tests of the code tell of an equation's step.
-use Prim.Native.Nat.{ℕ, _≤_}
+use Prim.Native.Nat.{ℕ}
 use mathlib.Core.Path.{_≡_, sym, _∙_}
 use mathlib.Core.List.{List}
 use mathlib.Core.Bool.{Bool, true, false}
-use native.Mathlib.Omega.{arith}
 use lib.Dec.{eqb}
-use lib.ListN.{length, take, getD}
+use lib.ListN.{getD}
 use borrow.Author.Tests.{eq-eqb, ne-eqb}
 use Rattle.terms.specs.Bounds.{edition-one}
 use Rattle.terms.specs.Kind.{within}
+use Rattle.walks.specs.declared.occurrence.Occurrence.the-variants.{Absent, Tail, Inside}
+use Rattle.walks.specs.Occurrence.{in-rest}
 use Rattle.search.specs.declared.steps.Tails.{Tails}
 use Rattle.search.specs.declared.steps.Tails.the-variants.{Different}
 use Rattle.search.specs.declared.steps.Step.the-variants.{Drop, Bind, Postpone, Decompose, Split, Dead}
-use Rattle.search.specs.Classify.{tails-by, meet-by}
-use Rattle.rows.specs.Flat.{holds}
-use Rattle.rows.specs.Stripped.{kernel-at, stripped-within}
-use Rattle.rows.specs.Stepping.{unknown-word, tails-of, kernel-word, meet-words, compare-words, step-by, step-of}
+use Rattle.search.specs.Classify.{tails-by}
+use Rattle.rows.specs.Stepping.{unknown-word, tails-of, kernel-word, meet-where, meet-words, compare-words, step-by, step-of}
 
 pub tails-told : (l r : ℕ) {a c d : Bool} → within 1000 1000 l ≡ a → within 1000 1000 r ≡ c → eqb l r ≡ d → tails-by a c d ≡ tails-of edition-one l r
 unfolding tails-of unknown-word edition-one
 tails-told l r p q s = rw (p, q, s)
 
-pub kernel-within : (arities ws : List ℕ) → kernel-at edition-one arities ws ≤ length ws
-kernel-within arities ws = omega (arith, stripped-within edition-one arities ws 0 0)
-
 module _ (arities : List ℕ) (x : ℕ) (ws : List ℕ) (k : Tails) where
-  pub met-nowhere : holds x ws ≡ false → Bind k ≡ meet-words edition-one arities x ws k
-  unfolding meet-words meet-by
-  met-nowhere p = rw p
+  pub met-nowhere : in-rest edition-one arities x ws 0 ≡ Absent → Bind k ≡ meet-words edition-one arities x ws k
+  unfolding meet-words meet-where
+  met-nowhere e = rw e
 
-  module _ (p : holds x ws ≡ true) where
-    pub met-elsewhere : (kernel-word edition-one arities ws ≡ x → ⊥) → Dead ≡ meet-words edition-one arities x ws k
-    unfolding meet-words meet-by
-    met-elsewhere d = rw (p, ne-eqb (kernel-word edition-one arities ws) x d)
+  pub met-as-tail : in-rest edition-one arities x ws 0 ≡ Tail → Postpone k ≡ meet-words edition-one arities x ws k
+  unfolding meet-words meet-where
+  met-as-tail e = rw e
 
-    pub met-inside : kernel-word edition-one arities ws ≡ x → holds x (take (kernel-at edition-one arities ws) ws) ≡ true → Dead ≡ meet-words edition-one arities x ws k
-    unfolding meet-words meet-by
-    met-inside e q = rw (p, eq-eqb (kernel-word edition-one arities ws) x e, q)
-
-    pub met-last : kernel-word edition-one arities ws ≡ x → holds x (take (kernel-at edition-one arities ws) ws) ≡ false → Postpone k ≡ meet-words edition-one arities x ws k
-    unfolding meet-words meet-by
-    met-last e q = rw (p, eq-eqb (kernel-word edition-one arities ws) x e, q)
+  pub met-inside : in-rest edition-one arities x ws 0 ≡ Inside → Dead ≡ meet-words edition-one arities x ws k
+  unfolding meet-words meet-where
+  met-inside e = rw e
 
 module _ (arities left right : List ℕ) where
   pub compared-apart : (getD left 0 0 ≡ getD right 0 0 → ⊥) → Dead ≡ compare-words edition-one arities left right

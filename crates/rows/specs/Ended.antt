@@ -51,10 +51,6 @@ module _ (b : Bounds) (arities : List ℕ) where
       let e : place + more + 1 ≡ place + 1 + more = omega arith in
       rw e (ended-shift ws (due + takes b arities w) (place + 1) more)
 
-  pub term-end-positive : (w : ℕ) (ws : List ℕ) → 0 < term-end b arities (w ∷ ws)
-  unfolding ended
-  term-end-positive w ws = omega (arith, ended-from ws (0 + takes b arities w) (0 + 1))
-
   -- a first word that no term follows is the whole term
   pub term-end-one : (ws : List ℕ) → 0 < length ws → takes b arities (getD ws 0 0) ≡ 0 → term-end b arities ws ≡ 1
   unfolding ended

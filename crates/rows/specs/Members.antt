@@ -3,19 +3,17 @@
 use Prim.Native.Nat.{ℕ, _+_, _-_, _<_}
 use mathlib.Core.Path.{_≡_, refl, ap, sym, _∙_}
 use mathlib.Core.List.{List, [], _∷_, _++_, append-assoc, append-nil}
-use mathlib.Core.Bool.{_&&_}
 use native.Mathlib.Omega.{arith}
-use lib.Dec.{eqb}
 use lib.ListN.{length, take, getD, length-append}
 use lib.Seq.{take-at, getD-append-add}
 use Rattle.terms.specs.Bounds.{Bounds, Proper}
 use Rattle.terms.specs.Kind.{within, within-first, within-before, within-after, Worded}
 use Rattle.terms.specs.Lists.{any}
 use Rattle.terms.specs.Term.{Term, unknown, empty, with, functor, words, members, kernel, over, occurs}
-use Rattle.terms.specs.Shape.{is-unknown, number}
+use Rattle.terms.specs.Shape.{is-unknown}
 use Rattle.terms.specs.Formed.{Formed, formed-unknown, formed-empty, formed-with, formed-functor}
 use Rattle.terms.specs.Flat.{length-words}
-use Rattle.rows.specs.Flat.{holds, holds-append, holds-words, eqb-unknown, mark-other, functor-other}
+use Rattle.rows.specs.Flat.{holds, holds-append, holds-words, mark-other}
 use Rattle.rows.specs.Stripped.{kernel-place}
 
 unfoldable pub member-words : Bounds → List Term → List ℕ
@@ -79,14 +77,6 @@ module _ {b : Bounds} (proper : Proper b) {x : ℕ} (h : x < b .unknown-words) w
   holds-members [] = refl
   holds-members (m ∷ ms) =
       rw (mark-other proper h 1 (omega arith)) (holds-append (b .first-unknown + x) (words b m) (member-words b ms) ∙ rw (holds-words proper h m, holds-members ms))
-
-  -- the first word of a term that is no set, and x's
-  pub head-is : (t : Term) → eqb (head-word b t) (b .first-unknown + x) ≡ (is-unknown t && eqb (number t) x)
-  unfolding head-word is-unknown number
-  head-is (unknown i) = eqb-unknown proper h i
-  head-is empty = mark-other proper h 0 (omega arith)
-  head-is (with m r) = mark-other proper h 1 (omega arith)
-  head-is (functor k ts) = functor-other proper h k
 
 module _ {b : Bounds} {arities : List ℕ} {n : ℕ} (worded : Worded b arities n) where
   pub head-unknown : {t : Term} → Formed arities n t → within (b .first-unknown) (b .unknown-words) (head-word b t) ≡ is-unknown t

@@ -5,22 +5,26 @@ use mathlib.Core.List.{List, [], append-nil}
 use mathlib.Core.Bool.{Bool, true, false, cond, _&&_, not}
 use native.Mathlib.Omega.{arith}
 use lib.Dec.{eqb}
-use lib.ListN.{take, getD}
+use lib.ListN.{getD}
 use borrow.Author.Tests.{eq-eqb, ne-eqb, eqb-true, eqb-false}
 use Rattle.room.specs.Replaced.{by-test}
 use Rattle.terms.specs.Bounds.{Bounds}
 use Rattle.terms.specs.Kind.{within, Worded}
+use Rattle.terms.specs.Lists.{any}
 use Rattle.terms.specs.Term.{Term, unknown, words, members, kernel, occurs}
 use Rattle.terms.specs.Shape.{is-unknown, number}
 use Rattle.terms.specs.Formed.{Formed, formed-unknown, formed-empty, formed-with, formed-functor}
+use Rattle.walks.specs.declared.occurrence.Occurrence.{Occurrence}
+use Rattle.walks.specs.declared.occurrence.Occurrence.the-variants.{Absent, Tail, Inside}
+use Rattle.walks.specs.Occurrence.{in-rest, in-rest-occurrence, occurrence-by}
 use Rattle.search.specs.declared.steps.Tails.{Tails}
 use Rattle.search.specs.declared.steps.Tails.the-variants.{Different}
 use Rattle.search.specs.declared.steps.Step.{Step}
-use Rattle.search.specs.declared.steps.Step.the-variants.{Drop, Bind, Decompose, Split, Dead}
+use Rattle.search.specs.declared.steps.Step.the-variants.{Drop, Bind, Postpone, Decompose, Split, Dead}
 use Rattle.search.specs.Classify.{tails-by, tails, only-tail, meet-by, meet, classify}
-use Rattle.rows.specs.Flat.{holds, holds-words, eqb-unknown}
+use Rattle.rows.specs.Flat.{eqb-unknown}
 use Rattle.rows.specs.Stripped.{kernel-at, kernel-at-words, kernel-place}
-use Rattle.rows.specs.Members.{head-word, head-words, head-kernel, head-is, head-unknown, formed-kernel, take-members, holds-members}
+use Rattle.rows.specs.Members.{head-word, head-words, head-kernel, head-unknown, formed-kernel}
 
 unfoldable pub unknown-word : Bounds → ℕ → Bool
 unknown-word b w = within (b .first-unknown) (b .unknown-words) w
@@ -32,9 +36,15 @@ tails-of b l r = tails-by (unknown-word b l) (unknown-word b r) (eqb l r)
 unfoldable pub kernel-word : Bounds → (arities ws : List ℕ) → ℕ
 kernel-word b arities ws = getD ws (kernel-at b arities ws) 0
 
+-- X = t by where X occurs in t
+unfoldable pub meet-where : Occurrence → Tails → Step
+meet-where Absent k = Bind k
+meet-where Tail k = Postpone k
+meet-where Inside k = Dead
+
 -- X = t, of whose tails so much is known
 unfoldable pub meet-words : Bounds → List ℕ → ℕ → List ℕ → Tails → Step
-meet-words b arities x ws k = meet-by (holds x ws) (eqb (kernel-word b arities ws) x && not (holds x (take (kernel-at b arities ws) ws))) k
+meet-words b arities x ws k = meet-where (in-rest b arities x ws 0) k
 
 -- neither side is an unknown
 unfoldable pub compare-words : Bounds → (arities left right : List ℕ) → Step
@@ -52,6 +62,12 @@ step-by false false b arities left right = compare-words b arities left right
 
 unfoldable pub step-of : Bounds → (arities left right : List ℕ) → Step
 step-of b arities left right = step-by (unknown-word b (getD left 0 0)) (unknown-word b (getD right 0 0)) b arities left right
+
+met-where : (o tail : Bool) (k : Tails) → meet-where (cond o (cond tail Tail Inside) Absent) k ≡ meet-by o tail k
+unfolding meet-where meet-by
+met-where true true k = refl
+met-where true false k = refl
+met-where false tail k = refl
 
 -- ---- the words of formed terms
 
@@ -94,8 +110,9 @@ module _ {b : Bounds} {arities : List ℕ} {n : ℕ} (worded : Worded b arities 
   meet-term : {x : ℕ} → x < n → {t : Term} → Formed arities n t → (k : Tails) → meet-words b arities (b .first-unknown + x) (words b t) k ≡ meet x t k
   unfolding meet-words meet only-tail
   meet-term {x} h {t} f k =
-      let l : x < b .unknown-words = omega (arith, worded .unknowns) in
-      rw (holds-words (worded .proper) l t, kernel-word-term f, kernel-at-term f, head-is (worded .proper) l (kernel t), take-members b t, holds-members (worded .proper) l (members t))
+      ap (λ (ws : List ℕ). meet-where (in-rest b arities (b .first-unknown + x) ws 0) k) (sym (append-nil (words b t)))
+      ∙ ap (λ (o : Occurrence). meet-where o k) (in-rest-occurrence worded x (omega (arith, worded .unknowns)) f [] ∙ occurrence-by x t)
+      ∙ met-where (occurs x t) (is-unknown (kernel t) && eqb (number (kernel t)) x && not (any (occurs x) (members t))) k
 
   -- an unknown on the left, or on the right alone
   left-unknown : {x : ℕ} → x < n → {u : Term} → Formed arities n u

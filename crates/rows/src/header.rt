@@ -1,7 +1,5 @@
 // A row of the room: eight words of header, then the body. specs/Row.antt says which word is what.
 ghost use mathlib.Core.Path.{_≡_};
-ghost use Prim.Native.Nat.{_+_, _≤_, _<_};
-ghost use lib.ListN.{length};
 ghost use Rattle.room.specs.Room.{put, Within};
 ghost use Rattle.rows.specs.Header.{header-of, Small};
 

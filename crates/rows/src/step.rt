@@ -4,11 +4,12 @@ ghost use Prim.Native.Nat.{_<_, _^_};
 ghost use lib.ListN.{length, getD};
 ghost use Rattle.terms.specs.Bounds.{edition-one};
 ghost use Rattle.rows.specs.Stepping.{tails-of, kernel-word, meet-words, compare-words, step-of};
-use crate::walk::is_in;
 use crate::walk::is_unknown;
 use crate::walk::place_of_kernel;
 use search::steps::Step;
 use search::steps::Tails;
+use walks::occurrence::Occurrence;
+use walks::occurrence::find_unknown;
 
 // The word at a place, or 0 past the end.
 pub fn word_at(words: &[u16], place: usize) -> u16
@@ -52,17 +53,11 @@ fn meet(arities: &[u8], x: u16, t: &[u16], tails: Tails) -> Step
     requires { ⌜ length (now t) < 2 ^ 32 ⌝ }
     ensures { λ r. ⌜ r ≡ meet-words edition-one (now (arities .entry)) x (now (t .entry)) tails ⌝ }
 {
-    if is_in(t, x) {
-        let k = place_of_kernel(arities, t);
-        if word_at(t, k) == x {
-            if is_in(&t[..k], x) {
-                return Step::Dead;
-            }
-            return Step::Postpone(tails);
-        }
-        return Step::Dead;
+    match find_unknown(arities, t, 0, x) {
+        Occurrence::Absent => Step::Bind(tails),
+        Occurrence::Tail => Step::Postpone(tails),
+        Occurrence::Inside => Step::Dead,
     }
-    Step::Bind(tails)
 }
 
 // Neither side is an unknown.

@@ -2,7 +2,6 @@
 ghost use mathlib.Core.Path.{_≡_};
 ghost use Prim.Native.Nat.{_<_, _^_};
 ghost use lib.ListN.{length};
-ghost use lib.Dec.{leb, ltb};
 ghost use mathlib.Core.Bool.{_&&_};
 ghost use Rattle.terms.specs.Bounds.{edition-one};
 ghost use Rattle.terms.specs.Kind.{takes, within};

@@ -10,10 +10,10 @@ use Rattle.terms.specs.declared.refusal.Checked.{Checked}
 use Rattle.terms.specs.declared.refusal.Checked.the-variants as checked
 use Rattle.laws.specs.Equal.{equal}
 use Rattle.laws.specs.Values.{in-order, solves-test}
-use Rattle.same.specs.declared.Equality.{Equality}
-use Rattle.same.specs.declared.Equality.the-variants as equality
-use Rattle.same.specs.declared.Solving.{Solving}
-use Rattle.same.specs.declared.Solving.the-variants as solving
+use Rattle.results.specs.declared.compared.Equality.{Equality}
+use Rattle.results.specs.declared.compared.Equality.the-variants as equality
+use Rattle.results.specs.declared.compared.Solving.{Solving}
+use Rattle.results.specs.declared.compared.Solving.the-variants as solving
 
 unfoldable pub equality-after : Checked → Bool → Equality
 equality-after (checked.Refused refusal) test = equality.Refused refusal

@@ -11,29 +11,17 @@ ghost use Rattle.terms.specs.declared.refusal.Checked.the-variants.{Fine};
 ghost use Rattle.laws.specs.Equal.{equal as test};
 ghost use Rattle.laws.specs.Values.{in-order, solves-test};
 ghost use Rattle.same.specs.Answering.{equal-answer, solves-answer};
-use checks::check::check_question;
-use checks::check::check_row;
 use holding::hold::all_hold;
 use holding::hold::values_hold;
+use lent_words::check_question;
+use lent_words::check_row;
 use places::classes::blank;
+use results::compared::Equality;
+use results::compared::Solving;
 use room::copy_in;
 use terms::bounds::UNKNOWNS;
 use terms::refusal::Checked;
 use terms::refusal::Refusal;
-
-// What the test of two ground terms answers.
-pub enum Equality {
-    Equal,
-    Differ,
-    Refused(Refusal),
-}
-
-// What the test of values answers.
-pub enum Solving {
-    Yes,
-    No,
-    Refused(Refusal),
-}
 
 // Are the two ground terms of a row equal?
 pub fn equal(arities: &[u8], row: &[u16]) -> Equality

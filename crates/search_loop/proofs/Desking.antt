@@ -8,11 +8,12 @@ use native.Mathlib.Omega.{arith}
 use Rattle.room.specs.Replaced.{by-test}
 use Rattle.search.specs.declared.limits.Limits.{Limits}
 use Rattle.rows.specs.declared.parts.Made.the-variants.{Live}
-use Rattle.record.specs.declared.Record.{Record}
+use Rattle.results.specs.declared.ran.Record.{Record}
 use Rattle.only_child.specs.declared.next.Looked.{Looked}
 use Rattle.only_child.specs.declared.next.Next.the-variants.{Node as Found}
 use Rattle.pick_loop.specs.Shown.{Looks}
-use Rattle.search_loop.specs.Desk.{Desk, nothing-open, open-here, open-above, Looking, desk-here, desk-above, desk-kept}
+use Rattle.search_loop.specs.Desk.{Desk, nothing-open, open-here, open-above, desk-here, desk-above, desk-kept}
+use Rattle.children.specs.Looking.{Looking}
 use Rattle.visits.specs.Visiting.{most-of}
 use Rattle.search_loop.specs.Running.{Given, Running, scratch-of}
 use Rattle.search_loop.proofs.Standing.{rows-above, ready}

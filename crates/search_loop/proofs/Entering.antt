@@ -26,7 +26,7 @@ use Rattle.promises.specs.Runs.Visiting.{Live as Is-live, is-live}
 use Rattle.turns.specs.Going.{Open, resumed, left, to-come, run-goes-on, run-overflows}
 use Rattle.rows.specs.declared.parts.Made.the-variants.{Live}
 use Rattle.rows.specs.Row.{Fresh, Makes}
-use Rattle.record.specs.declared.Record.{Record}
+use Rattle.results.specs.declared.ran.Record.{Record}
 use Rattle.record.specs.Counts.{counted, with-answers, fits, answer-in, note-by, held-by}
 use Rattle.record.specs.Answering.{answer-held, held-notable}
 use Rattle.only_child.specs.declared.next.Next.the-variants.{Node as Found}
@@ -36,7 +36,7 @@ use Rattle.search_loop.specs.Desk.{Desk, open-above, desk-kept}
 use Rattle.visits.specs.Number.{number-words, part-after}
 use Rattle.search_loop.specs.Passing.{long-overflows}
 use Rattle.search_loop.specs.Path.{Row, Rows, a-row, holds-kept, rows-kept, part-kept, numbered, before-number, holds-numbered, holds-after, fresh-number}
-use Rattle.visits.specs.Loans.{loan}
+use Rattle.results.specs.Loans.{loan}
 use Rattle.visits.specs.Visiting.{most-of, OpenParts, child-place, child-row, noted-turn, node-turn, node-room, node-answers}
 use Rattle.search_loop.specs.Running.{Given, given, remains, scratch-of, Running, Turned, goes, ends}
 use Rattle.search_loop.proofs.Meeting.{next-visit, met, open-to}

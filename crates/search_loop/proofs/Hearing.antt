@@ -10,15 +10,15 @@ use Rattle.search.specs.declared.limits.Limits.{Limits}
 use Rattle.search.specs.State.{State}
 use Rattle.rows.specs.declared.parts.Made.{Made}
 use Rattle.rows.specs.declared.parts.Made.the-variants.{Dead, Names as ManyNames, Large, Live}
-use Rattle.record.specs.declared.Record.{Record}
+use Rattle.results.specs.declared.ran.Record.{Record}
 use Rattle.record.specs.Counts.{counted}
 use Rattle.only_child.specs.declared.next.Looked.{Looked}
 use Rattle.only_child.specs.declared.next.Next.the-variants.{Spent, Node as Found, Due}
-use Rattle.visits.specs.declared.node.Ending.{Ending}
+use Rattle.results.specs.declared.ran.Ending.{Ending}
 use Rattle.visits.specs.declared.node.Turn.{Turn}
 use Rattle.visits.specs.declared.node.Turn.the-variants.{End}
 use Rattle.pick_loop.specs.Shown.{Looks}
-use Rattle.search_loop.specs.Desk.{Looking}
+use Rattle.children.specs.Looking.{Looking}
 use Rattle.visits.specs.Number.{number-of, number-words, number-back}
 use Rattle.visits.specs.Visiting.{OpenParts, most-of, back-to, due-ending, node-turn, node-room, node-answers}
 use Rattle.search_loop.specs.Running.{Given, scratch-of, Running, Turned}

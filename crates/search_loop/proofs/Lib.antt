@@ -3,7 +3,6 @@ pub mod Entering
 pub mod Hearing
 pub mod Looping
 pub mod Meeting
-pub mod Showing
 pub mod Sounding
 pub mod Standing
 pub mod Turning

@@ -5,8 +5,8 @@ use mathlib.Core.List.{List}
 use native.Mathlib.Omega.{arith}
 use lib.ListN.{length}
 use Rattle.search.specs.declared.limits.Limits.{Limits}
-use Rattle.record.specs.declared.Record.{Record}
-use Rattle.visits.specs.declared.node.Ending.{Ending}
+use Rattle.results.specs.declared.ran.Record.{Record}
+use Rattle.results.specs.declared.ran.Ending.{Ending}
 use Rattle.visits.specs.declared.node.Turn.{Turn}
 use Rattle.visits.specs.declared.node.Turn.the-variants.{At, End}
 use Rattle.search_loop.specs.Running.{Given, Running, Turned, goes, ends, Ends}

@@ -13,14 +13,14 @@ use Rattle.search.specs.Run.{Visit, visit}
 use Rattle.turns.specs.Going.{left, to-come, to-come-live}
 use Rattle.turns.specs.Numbers.{drop-next}
 use Rattle.rows.specs.declared.parts.Made.the-variants.{Dead, Names as ManyNames, Large}
-use Rattle.record.specs.declared.Record.{Record}
+use Rattle.results.specs.declared.ran.Record.{Record}
 use Rattle.record.specs.Counts.{counted}
 use Rattle.only_child.specs.declared.next.Next.the-variants.{Node as Found}
 use Rattle.only_child.specs.Became.{many-names, few-names, too-large, never-dead}
 use Rattle.only_child.specs.Next.{dead-ends, Tells, then-live}
 use Rattle.visits.specs.declared.node.Turn.the-variants.{End}
 use Rattle.search_loop.specs.Passing.{names-stop, large-stops}
-use Rattle.visits.specs.Loans.{loan}
+use Rattle.results.specs.Loans.{loan}
 use Rattle.visits.specs.Visiting.{most-of}
 use Rattle.search_loop.specs.Running.{Given, given, remains, Running, Turned, ends}
 use Rattle.search_loop.proofs.Standing.{passed, most-few, most-deep}

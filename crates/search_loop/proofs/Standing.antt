@@ -14,12 +14,12 @@ use Rattle.search.specs.declared.limits.Limits.{Limits}
 use Rattle.search.specs.State.{Node}
 use Rattle.search.specs.Children.{children}
 use Rattle.turns.specs.Going.{Open, to-come}
-use Rattle.record.specs.declared.Record.{Record}
+use Rattle.results.specs.declared.ran.Record.{Record}
 use Rattle.record.specs.Counts.{counted}
 use Rattle.only_child.specs.Next.{dead-ends, Ready}
 use Rattle.search_loop.specs.Passing.{to-come-deads, deads-pass}
 use Rattle.search_loop.specs.Path.{Row, Rows, a-row}
-use Rattle.visits.specs.Loans.{loan, needed}
+use Rattle.results.specs.Loans.{loan, needed}
 use Rattle.visits.specs.Visiting.{most-of}
 use Rattle.search_loop.specs.Running.{Given, given, remains, Running}
 use Rattle.search_loop.proofs.Sounding.{sound}

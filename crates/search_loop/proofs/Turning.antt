@@ -20,7 +20,7 @@ use Rattle.search.specs.Run.{Visit, visit, dead-visit, stops, verdict, scan}
 use Rattle.turns.specs.Going.{Open, resumed, left, to-come, to-come-spent, to-come-dead, to-come-live, run-stops}
 use Rattle.turns.specs.Numbers.{drop-next}
 use Rattle.rows.specs.declared.parts.Made.{Made}
-use Rattle.record.specs.declared.Record.{Record}
+use Rattle.results.specs.declared.ran.Record.{Record}
 use Rattle.record.specs.Counts.{counted}
 use Rattle.only_child.specs.declared.next.Next.{Next}
 use Rattle.only_child.specs.declared.next.Next.the-variants.{Spent, Node as Found, Due}
@@ -29,7 +29,7 @@ use Rattle.only_child.specs.Next.{Tells, all-dead, then-live, then-due, Child}
 use Rattle.search_loop.specs.Desk.{Desk}
 use Rattle.search_loop.specs.Passing.{spent-stops, deep-stops}
 use Rattle.search_loop.specs.Path.{Rows, rows-kept}
-use Rattle.visits.specs.Loans.{loan}
+use Rattle.results.specs.Loans.{loan}
 use Rattle.visits.specs.Visiting.{most-of, back-to, due-ending}
 use Rattle.search_loop.specs.Running.{Given, given, remains, Suits, scratch-of, Running, Turned, goes, ends}
 use Rattle.search_loop.proofs.Standing.{rows-above, passed, most-few, most-left}

@@ -1,34 +1,20 @@
--- The split that stands open in scratch, seen from a path: it is the split of one of the path's rows, or none stands open. What is asked of a row before
--- its children are looked for.
+-- The split that stands open in scratch, seen from a path: it is the split of one of the path's rows, or none stands open.
 use Prim.Native.Nat.{ℕ, _+_, _*_, _≤_}
 use mathlib.Core.Path.{_≡_, refl}
 use mathlib.Core.List.{List, _∷_}
 use native.Mathlib.Omega.{arith}
 use lib.ListN.{length}
 use Rattle.room.specs.Room.{seg}
-use Rattle.search.specs.State.{State}
 use Rattle.turns.specs.Going.{Open}
-use Rattle.only_child.specs.Next.{Ready}
-use Rattle.pick_loop.specs.Shown.{Shown, shown-kept}
+use Rattle.pick_loop.specs.Shown.{shown-kept}
+use Rattle.children.specs.Looking.{Stands}
 use Rattle.search_loop.specs.Path.{Rows, a-row}
-
--- a state's split stands open, with the picks of the child before the one that is next
-pub record Stands (l : List ℕ) (lent scratch : ℕ) (st : State) (child : ℕ) : Type 0 where
-  pub last : ℕ
-  pub after : child ≡ last + 1
-  pub shown : Shown l lent scratch st last
 
 -- the level whose split stands open in scratch, counted from 1; 0 where none does
 pub data Desk (l : List ℕ) (lent scratch : ℕ) : List Open → ℕ → Type 0 where
   nothing-open : {path : List Open} → Desk l lent scratch path 0
   open-here : {o : Open} {path : List Open} → Stands l lent scratch (o .state) (o .child) → Desk l lent scratch (o ∷ path) (length path + 1)
   open-above : {o : Open} {path : List Open} {k : ℕ} → Desk l lent scratch path k → Desk l lent scratch (o ∷ path) k
-
--- the children of a row of this level may be looked for; where the level is the one that is shown, the row's split stands open
-pub record Looking (arities l : List ℕ) (at level number size scratch most shown : ℕ) (st : State) : Type 0 where
-  pub level-small : level ≤ 1024
-  pub ready : Ready arities l at number size scratch most st
-  pub stands : shown ≡ level + 1 → Stands l size scratch st number
 
 -- ---- whose split it is
 

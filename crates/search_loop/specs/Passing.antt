@@ -5,7 +5,6 @@ use mathlib.Core.Path.{_≡_, refl, ap, _∙_}
 use mathlib.Core.List.{List, [], _∷_, _++_}
 use native.Mathlib.Omega.{arith}
 use native.Mathlib.Nat.{add-zero}
-use native.Mathlib.Numerals.{add-one}
 use lib.ListN.{length, drop}
 use borrow.Author.Tests.{eq-eqb, ne-eqb, lt-ltb, le-ltb, lt-leb}
 use Rattle.terms.specs.Bounds.{Bounds}
@@ -24,9 +23,6 @@ dead-visits d zero = []
 dead-visits d (suc k) = dead-visit d ∷ dead-visits d k
 
 -- ---- the visits still to come
-
-pub drop-after : (c : ℕ) (ns : List Node) {n : Node} {rest : List Node} → drop c ns ≡ n ∷ rest → drop (c + 1) ns ≡ rest
-drop-after c ns e = rw add-one (drop-next c ns _ _ e)
 
 module _ (deepest : ℕ) (st : State) (path : List Open) (h : length path ≤ deepest) where
   pub to-come-deads : (c k : ℕ) {rest : List Node} → drop c (children st) ≡ dead-ends k ++ rest

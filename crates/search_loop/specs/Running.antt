@@ -11,13 +11,13 @@ use Rattle.checks.specs.Lent.{Table}
 use Rattle.search.specs.declared.limits.Limits.{Limits}
 use Rattle.search.specs.Run.{Visit, Outcome, scan}
 use Rattle.turns.specs.Going.{Open, resumed, left, to-come}
-use Rattle.record.specs.declared.Record.{Record}
-use Rattle.visits.specs.declared.node.Ending.{Ending}
+use Rattle.results.specs.declared.ran.Record.{Record}
+use Rattle.results.specs.declared.ran.Ending.{Ending}
 use Rattle.visits.specs.declared.node.Turn.{Turn}
 use Rattle.visits.specs.declared.node.Turn.the-variants.{At, End}
 use Rattle.search_loop.specs.Desk.{Desk}
 use Rattle.search_loop.specs.Path.{Rows}
-use Rattle.visits.specs.Loans.{loan, needed}
+use Rattle.results.specs.Loans.{loan, needed}
 
 -- what a run gives: its end and numbers, and what the lent answer words hold then
 pub record Given : Type 0 where

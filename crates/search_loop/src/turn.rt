@@ -1,21 +1,16 @@
 // One turn of the search: the next child of the deepest row is looked for, and opened. Then the loop over turns. A split that was opened stands open in
 // scratch until another one is, and its next child only advances the picks.
 ghost use mathlib.Core.Path.{_≡_};
-ghost use mathlib.Core.Bool.{true, cond};
+ghost use mathlib.Core.Bool.{cond};
 ghost use Prim.Native.Nat.{_+_};
-ghost use Rattle.search.specs.State.{State};
-ghost use Rattle.pick_loop.specs.Shown.{Looks};
-ghost use Rattle.search_loop.specs.Desk.{Looking};
 ghost use Rattle.search_loop.specs.Running.{Given, Running, Turned, Ends};
-use children::next_child;
-use children::next_pick;
-use only_child::next::Looked;
+use children::look;
 use only_child::next::Next;
-use record::Record;
 use record::with_nodes;
+use results::ran::Ending;
+use results::ran::Record;
 use rows::header::HEADER;
 use search::limits::Limits;
-use visits::node::Ending;
 use visits::node::Turn;
 use visits::node::back;
 use visits::node::due;
@@ -27,31 +22,6 @@ use visits::number::number_in;
 pub struct Taken {
     pub turn: Turn,
     pub shown: usize,
-}
-
-// What is told of the children of the row at `at`, of this level, from `number` on: where its split stands open, only the picks go on.
-fn look(
-    arities: &[u8],
-    room: &mut [u16],
-    at: usize,
-    level: usize,
-    number: usize,
-    size: usize,
-    scratch: usize,
-    most: usize,
-    shown: usize,
-) -> Looked
-    requires { ⌜ ((st : State) × Looking (now arities) (now room) at level number size scratch most shown st) ⌝ }
-    ensures { λ r. ⌜ ((st : State) → Looking (now (arities .entry)) (now (room .entry)) at level number size scratch most shown st → Looks (now (room .entry)) at number size scratch most st r (now (room .exit))) ⌝ }
-    ensures { λ r. ⌜ (shown ≡ level + 1 → r .opens ≡ true) ⌝ }
-{
-    if shown == level + 1 {
-        return Looked {
-            next: next_pick(arities, room, at, size, scratch, most),
-            opens: true,
-        };
-    }
-    next_child(arities, room, at, number, size, scratch, most)
 }
 
 // Which split stands open after a look: the one here where the row's was opened, else the one that stood open before.

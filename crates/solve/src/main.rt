@@ -2,7 +2,7 @@
 // proves what is printed for what is read: here bytes are moved.
 use libc::STDIN_FILENO;
 use libc::STDOUT_FILENO;
-use text_solver::OUTPUT;
+use printing::OUTPUT;
 use text_solver::solve_text;
 
 // More bytes than any good question has: `question-length` of text/specs/Sizes.antt.

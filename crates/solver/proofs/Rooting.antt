@@ -22,8 +22,8 @@ use Rattle.rows.specs.Pile.{pile-words}
 use Rattle.rows.specs.States.{pending-words, body-words, length-pending}
 use Rattle.rows.specs.Row.{Fresh, header-for, state-words}
 use Rattle.search_loop.specs.Passing.{spent-stops, large-stops}
-use Rattle.visits.specs.Loans.{loan, ending}
-use Rattle.solver.specs.Result.{gives}
+use Rattle.results.specs.Loans.{loan, ending}
+use Rattle.results.specs.Result.{gives}
 use Rattle.search_loop.specs.Running.{given, remains, Ends}
 use Rattle.solver.specs.Start.{rooted, nothing, Asking, whole-run, Rooted}
 use Rattle.solver.proofs.Starting.{row-fits, ends-as}

@@ -17,16 +17,16 @@ use Rattle.search.specs.declared.limits.Limits.{Limits}
 use Rattle.search.specs.Run.{Visit, visit, found, found-size, root}
 use Rattle.promises.specs.Runs.Verdicts.{allowed}
 use Rattle.turns.specs.Going.{Open, left, to-come}
-use Rattle.record.specs.declared.Record.{Record}
+use Rattle.results.specs.declared.ran.Record.{Record}
 use Rattle.record.specs.declared.Noted.{Noted}
 use Rattle.record.specs.declared.Noted.the-variants.{Held, Space as NoSpace}
 use Rattle.record.specs.Counts.{counted, with-answers, fits, answer-in, note-by, held-by, Notable}
 use Rattle.record.specs.Answering.{answer-held, held-notable}
-use Rattle.visits.specs.declared.node.Ending.{Ending}
+use Rattle.results.specs.declared.ran.Ending.{Ending}
 use Rattle.search_loop.specs.Desk.{nothing-open}
 use Rattle.search_loop.specs.Passing.{long-overflows}
 use Rattle.search_loop.specs.Path.{Row, no-rows, a-row, fresh-number}
-use Rattle.visits.specs.Loans.{loan, needed, ending}
+use Rattle.results.specs.Loans.{loan, needed, ending}
 use Rattle.search_loop.specs.Running.{Given, given, remains, Suits, Running, Ends}
 use Rattle.solver.specs.Start.{nothing, Rooted}
 use Rattle.search_loop.proofs.Entering.{overflows-here, goes-here, more, then, one-at-most}

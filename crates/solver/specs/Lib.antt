@@ -1,2 +1,1 @@
-pub mod Result
 pub mod Start

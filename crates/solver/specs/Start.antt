@@ -15,8 +15,8 @@ use Rattle.promises.specs.States.Orderly.{Orderly}
 use Rattle.turns.specs.Going.{to-come}
 use Rattle.rows.specs.Row.{Fresh}
 use Rattle.rows.specs.Header.{header-of}
-use Rattle.record.specs.declared.Record.{Record}
-use Rattle.visits.specs.Loans.{loan, ending}
+use Rattle.results.specs.declared.ran.Record.{Record}
+use Rattle.results.specs.Loans.{loan, ending}
 use Rattle.search_loop.specs.Running.{Suits, Given, given, remains}
 
 -- the room with the root's row: the question's words are pending

@@ -3,17 +3,19 @@
 // In specs/, `Result` says what a run gives for any input; `Start` is where the search starts.
 ghost use lib.ListN.{length};
 ghost use Rattle.search.specs.declared.limits.Lent.the-variants as lents;
-ghost use Rattle.solver.specs.Result.{RunGives, told, told-within};
+ghost use Rattle.results.specs.Result.{RunGives, told, told-within};
 ghost use Rattle.search_loop.specs.Running.{Given, Ends};
 ghost use Rattle.solver.specs.Start.{Asking, Bounded, Rooted, whole-run};
 
 pub mod root;
 
-use checks::check::check_question;
+use lent_words::check_question;
 use record::Noted;
-use record::Record;
 use record::note;
 use record::with_nodes;
+use results::ran::Ending;
+use results::ran::Ran;
+use results::ran::Record;
 use root::write_root;
 use rows::header::HEADER;
 use search::ends::End;
@@ -23,13 +25,6 @@ use search_loop::turn::search_on;
 use terms::refusal::Cause;
 use terms::refusal::Checked;
 use terms::refusal::Refusal;
-use visits::node::Ending;
-
-// What a run answers.
-pub enum Ran {
-    Ended(Ending),
-    Refused(Refusal),
-}
 
 // The root is open: its answer is noted, and the search goes on from its row.
 fn enter_root(arities: &[u8], limits: Limits, answers: &mut [u16], room: &mut [u16]) -> Ending

@@ -43,9 +43,6 @@ use Rattle.splits.proofs.Values.{u-there, t-there}
 
 module _ {arities l : List ℕ} {from : ℕ} {rest : Rest} {sides : Sides} {joined : Joined} {x y to lent next scratch : ℕ} {l₀ : List ℕ} {p : Parent} {s r : ℕ}
     (R : Renew arities l from rest sides joined x y to lent next scratch l₀ p s r) where
-  pub share-parts : ShareParts l joined next lent scratch
-  share-parts = let N = numbers (R .due .opened) in record { space = N .space; u-within = R .sharing .u-within; t-within = R .sharing .t-within; few = N .few }
-
   module _ {a : Copied} {q : List ℕ} (M : ShareMade l joined x next lent scratch a q) where
     shared : Shared l joined s next lent scratch p a q
     shared = M .shared l₀ p s (R .sharing) (R .x-is) (omega (arith, R .s-below, R .few))

@@ -1,5 +1,4 @@
 // A child of a split that binds nothing: neither tail is an unknown, or both are the same.
-ghost use mathlib.Core.Path.{_≡_};
 ghost use Rattle.search.specs.declared.steps.Tails.the-variants.{Neither, Same};
 ghost use Rattle.rows.specs.Wrote.{Wrote};
 ghost use Rattle.tails.specs.Due.{ChildParts, ChildMade};

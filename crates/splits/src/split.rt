@@ -1,5 +1,4 @@
 // A child of a split, by the kind of its two tails.
-ghost use mathlib.Core.Path.{_≡_};
 ghost use Rattle.tails.specs.Due.{ChildParts, ChildMade};
 use crate::different::different;
 use crate::kept::neither;

@@ -25,9 +25,6 @@ module _ {r₀ : List ℕ} {from places picks n tail l to : ℕ} (P : ValueParts
     apart = apart-part (P .apart) (omega arith) (omega arith) (omega arith) (omega (arith, told .1));
   }
 
-  pub sum-within : (to + (k + l) ≤ length r₀) × (from + 8 + tail + l ≤ length r₀)
-  sum-within = (omega (arith, P .to-within, told .1), P .tail-within)
-
   pub value-length : k + l ≡ length (value-piece r₀ from places picks n others tail l)
   unfolding value-piece
   value-length = omega (arith, told .0, length-append first (seg r₀ (from + 8 + tail) l), length-seg r₀ (from + 8 + tail) l (P .tail-within))

@@ -108,10 +108,6 @@ abbrev pub Open : Bounds → ℕ → Coming → Type 0
 Open b depth (due i ws) = depth < b .nesting
 Open b depth (done ws) = Unit {0}
 
-pub any-open : (b : Bounds) (depth : ℕ) (c : Coming) → depth < b .nesting → Open b depth c
-any-open b depth (due i ws) h = h
-any-open b depth (done ws) h = tt
-
 module _ (b : Bounds) (s : List ℕ) where
   pub name-placed : (declared p n : ℕ) → p < length s → Placed s (p + 1) Any (name b s declared p n)
   unfolding name symbol

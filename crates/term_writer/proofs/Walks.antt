@@ -3,14 +3,14 @@ use Prim.Native.Nat.{ℕ, zero, suc, _+_, _-_, _≤_, _<_}
 use native.Mathlib.Numerals.{add-one}
 use native.Mathlib.Omega.{arith}
 use mathlib.Core.Path.{_≡_, refl, sym, ap, _∙_}
-use mathlib.Core.List.{List, [], _∷_, _++_}
+use mathlib.Core.List.{List, []}
 use lib.ListN.{length, getD, drop, drop-of-length-le}
 use lib.Seq.{drop-cons}
-use Rattle.terms.specs.Bounds.{Bounds, edition-one}
+use Rattle.terms.specs.Bounds.{edition-one}
 use Rattle.pen.specs.Pen.{most, Wrote}
 use Rattle.pen.specs.Opened.{Bracket, brackets, Holds}
 use Rattle.pen.specs.Walk as walk
-use Rattle.pen.specs.Walk.{Writes, writes, deep, symbol, word, Walk, ended, too-deep, prepend, onward, term-at, Stepped, went-on, was-deep, Passed, was-ended, was-too-deep}
+use Rattle.pen.specs.Walk.{Writes, writes, deep, symbol, word, ended, prepend, onward, term-at, Stepped, went-on, was-deep, Passed, was-ended, was-too-deep}
 use Rattle.pen.specs.declared.begin.Symbol.{Symbol}
 use Rattle.pen.specs.declared.bracket.Pen.{Pen}
 use Rattle.pen.specs.declared.bracket.Step.{Step}

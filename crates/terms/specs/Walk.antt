@@ -1,16 +1,15 @@
 -- Walks over words with a counter of terms still due: each word lowers it by one and raises it by the terms that follow. One law, `past`, carries every
 -- such walk over a whole term. Here is the walk to the end of terms; the check, the members and occurrence have theirs in files of their own.
 use Prim.Native.Nat.{ℕ, zero, suc, _+_, _<_, _≤_, _^_}
-use mathlib.Core.Path.{_≡_, refl, ap, sym, _∙_}
+use mathlib.Core.Path.{_≡_, refl, ap, _∙_}
 use mathlib.Core.List.{List, [], _∷_, _++_, append-assoc}
 use native.Mathlib.Omega.{arith}
 use native.Mathlib.Nat.{add-zero, add-suc, zero-add}
-use lib.ListN.{length, drop, length-append}
-use lib.Seq.{drop-drop, drop-append-seam}
+use lib.ListN.{length, length-append}
 use Rattle.terms.specs.Bounds.{Bounds}
 use Rattle.terms.specs.Kind.{takes, takes-empty, takes-member, takes-unknown, takes-functor, Worded}
 use Rattle.terms.specs.Lists.{All, none, both, All-append, All-front, All-back}
-use Rattle.terms.specs.Term.{Term, Terms, with, words, words*, size, size*, count}
+use Rattle.terms.specs.Term.{Term, Terms, words, words*, size, size*, count}
 use Rattle.terms.specs.Formed.{Formed, Formed*, formed-unknown, formed-empty, formed-with, formed-functor, formed-none, formed-more, row}
 use Rattle.terms.specs.Flat.{length-words}
 
@@ -117,26 +116,3 @@ module _ {b : Bounds} {arities : List ℕ} {n : ℕ} (worded : Worded b arities 
 
   pub term-ends : {t : Term} → Formed arities n t → (ws : List ℕ) → span b arities (words b t ++ ws) 1 ≡ size t
   term-ends f ws = span-term f ws 0 ∙ omega (arith, span-zero b arities ws)
-
--- ---- words that stand at a place of a longer list
-
-pub drop-past : (p : ℕ) (l vs ws : List ℕ) → drop p l ≡ vs ++ ws → drop (p + length vs) l ≡ ws
-drop-past p l vs ws e = sym (drop-drop (length vs) p l) ∙ ap (drop (length vs)) e ∙ drop-append-seam vs ws
-
-module _ (b : Bounds) (p : ℕ) (l ws : List ℕ) where
-  -- after a term
-  pub drop-term : (t : Term) → drop p l ≡ words b t ++ ws → drop (p + size t) l ≡ ws
-  drop-term t e = rw (length-words b t) at (drop-past p l (words b t) ws e)
-
-  -- a member stands after its mark, and the rest after the member
-  pub drop-member : (m r : Term) → drop p l ≡ words b (with m r) ++ ws → drop (p + 1) l ≡ words b m ++ (words b r ++ ws)
-  unfolding words
-  drop-member m r e = drop-past p l (1 ∷ []) ((words b m ++ words b r) ++ ws) e ∙ append-assoc (words b m) (words b r) ws
-
-pub drop-rest : (b : Bounds) (p : ℕ) (l ws : List ℕ) (m r : Term) → drop p l ≡ words b (with m r) ++ ws → drop (p + 1 + size m) l ≡ words b r ++ ws
-drop-rest b p l ws m r e = drop-term b (p + 1) l (words b r ++ ws) m (drop-member b p l ws m r e)
-
--- the walk to the end of a term that stands at a place
-pub term-end-at : {b : Bounds} {arities : List ℕ} {n : ℕ} → Worded b arities n → (p : ℕ) (l ws : List ℕ) {t : Term} → Formed arities n t
-    → drop p l ≡ words b t ++ ws → p + span b arities (drop p l) 1 ≡ p + size t
-term-end-at worded p l ws f e = rw e (ap (λ k. p + k) (term-ends worded f ws))

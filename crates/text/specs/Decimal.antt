@@ -1,15 +1,14 @@
 -- Laws of decimal numbers: the one-step equations of `decimal`, its bytes, and its length.
-use Prim.Native.Nat.{ℕ, zero, suc, _+_, _*_, _/_, _%_, _^_, _≤_, _<_}
-use native.Mathlib.Nat.{div-add-mod', mod-lt, add-suc, add-zero}
+use Prim.Native.Nat.{ℕ, zero, suc, _+_, _/_, _%_, _^_, _≤_, _<_}
+use native.Mathlib.Nat.{div-add-mod', mod-lt}
 use native.Mathlib.Omega.{arith}
-use mathlib.Core.Path.{_≡_, refl, sym, ap, _∙_}
-use mathlib.Core.Bool.{Bool, true, false}
-use mathlib.Core.List.{List, [], _∷_, _++_}
+use mathlib.Core.Path.{_≡_, refl}
+use mathlib.Core.List.{[], _∷_, _++_}
 use lib.Dec.{ltb}
 use lib.ListN.{length, length-append}
 use borrow.Author.Tests.{lt-ltb, le-ltb, ltb-true, ltb-false}
 use Rattle.terms.specs.Lists.{All, none, both, All-append, cases}
-use Rattle.text.specs.Text.{choose, digits, decimal}
+use Rattle.text.specs.Text.{digits, decimal}
 
 -- a quotient by ten is smaller, and ten times it with the last digit is the number
 pub tenth : (n : ℕ) → 10 ≤ n → n / 10 < n

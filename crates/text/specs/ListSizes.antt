@@ -1,7 +1,6 @@
 -- How long the text of an answer list is: a list of at most 4,096 words fits 65,536 bytes, at 14 bytes a word and a short header.
-use Prim.Native.Nat.{ℕ, zero, suc, _+_, _*_, _^_, _≤_, _<_}
+use Prim.Native.Nat.{ℕ, _+_, _*_, _≤_, _<_}
 use native.Mathlib.Omega.{arith}
-use mathlib.Core.Path.{_≡_, refl}
 use mathlib.Core.List.{List, [], _∷_, _++_}
 use lib.ListN.{length, length-append}
 use Rattle.terms.specs.Answers.{Named, binding-words, answer-words, listed}

@@ -1,13 +1,13 @@
 -- How long texts are: a term takes less than six bytes a word, and every good question of edition one fits 32,768 bytes.
-use Prim.Native.Nat.{ℕ, zero, suc, _+_, _*_, _^_, _≤_, _<_}
+use Prim.Native.Nat.{ℕ, _+_, _*_, _≤_, _<_}
 use native.Mathlib.Omega.{arith}
-use mathlib.Core.Path.{_≡_, refl, ap}
+use mathlib.Core.Path.{_≡_}
 use mathlib.Core.List.{List, [], _∷_, _++_}
 use lib.ListN.{length, length-append}
 use Rattle.terms.specs.Bounds.{Bounds, edition-one}
 use Rattle.terms.specs.Flat.{length-words}
 use Rattle.terms.specs.Lists.{All, both}
-use Rattle.terms.specs.Term.{Term, Terms, unknown, empty, with, functor, none, more, words, size, size*, count}
+use Rattle.terms.specs.Term.{Term, Terms, none, words, size, size*}
 use Rattle.terms.specs.Formed.{Formed, Formed*, formed-unknown, formed-empty, formed-with, formed-functor, formed-none, formed-more, Equation, sides, Question, row, Good}
 use Rattle.text.specs.Keys.{edition-key, unknowns-key, arities-key, equations-key, left-key, right-key}
 use Rattle.text.specs.Text.{decimal, numbers, further-numbers, unknown-name, functor-name, text, after-member, arguments, after-argument, line, equation-lines, question-text}

@@ -10,17 +10,17 @@ use Rattle.terms.specs.declared.refusal.Refusal.{Refusal}
 use Rattle.numerals.specs.Reading.{Reading, read}
 use Rattle.numerals.specs.Reading as reading
 use Rattle.question_reader.specs.Questions.{Asked}
-use Rattle.question_reader.specs.declared.whole.Question.{Question}
-use Rattle.question_reader.specs.declared.whole.Question.the-variants.{Read}
-use Rattle.question_reader.specs.declared.whole.Question.the-variants as question
+use Rattle.results.specs.declared.read.Question.{Question}
+use Rattle.results.specs.declared.read.Question.the-variants.{Read}
+use Rattle.results.specs.declared.read.Question.the-variants as question
 use Rattle.reader.specs.Lent.{ReadGives, answer, laid}
-use Rattle.visits.specs.Loans.{ending}
-use Rattle.visits.specs.declared.node.Ending.{Ending}
-use Rattle.solver.specs.Result.{RunGives, Told, refuses, gives, told, result}
-use Rattle.solver.specs.declared.Ran.{Ran}
-use Rattle.solver.specs.declared.Ran.the-variants.{Ended, Refused}
+use Rattle.results.specs.Loans.{ending}
+use Rattle.results.specs.declared.ran.Ending.{Ending}
+use Rattle.results.specs.Result.{RunGives, Told, refuses, gives, told, result}
+use Rattle.results.specs.declared.ran.Ran.{Ran}
+use Rattle.results.specs.declared.ran.Ran.the-variants.{Ended, Refused}
 use Rattle.guarantees.specs.Promised.{buffer-after}
-use Rattle.text_solver.specs.Solved.{refused, of-list, of-run, of-words, of-reading}
+use Rattle.printing.specs.Solved.{refused, of-list, of-run, of-words, of-reading}
 
 within : (xs ys : List ℕ) → length xs ≤ length (xs ++ ys)
 within xs ys = omega (arith, length-append xs ys)

@@ -6,7 +6,7 @@ use mathlib.Core.List.{List, [], _∷_, _++_, map, flatMap}
 use lib.ListN.{length, drop, getD, length-append, length-map}
 use lib.Seq.{drop-append-le, drop-append-add, drop-drop, getD-drop}
 use native.Mathlib.Omega.{arith}
-use native.Mathlib.Nat.{zero-mul, suc-mul, one-mul, mul-one, add-mul, mul-assoc, mul-le-mul-right}
+use native.Mathlib.Nat.{zero-mul, suc-mul, one-mul, add-mul, mul-assoc, mul-le-mul-right}
 use Rattle.terms.specs.Lists.{All, none, both, product}
 
 -- ---- a list from a place on
@@ -139,17 +139,3 @@ number-append qs es (digit {d = d} {rs = rs} {ds = ds} h hs) =
 pub digits-append : {rs ds qs es : List ℕ} → Digits rs ds → Digits qs es → Digits (rs ++ qs) (ds ++ es)
 digits-append no-digit k = k
 digits-append (digit h hs) k = digit h (digits-append hs k)
-
--- the last digit goes up by one
-pub number-up : {rs ds : List ℕ} (r d : ℕ) → Digits rs ds → number (rs ++ (r ∷ [])) (ds ++ (suc d ∷ [])) ≡ suc (number (rs ++ (r ∷ [])) (ds ++ (d ∷ [])))
-unfolding number choices
-number-up {rs} {ds} r d h =
-    rw (number-append (r ∷ []) (suc d ∷ []) h, number-append (r ∷ []) (d ∷ []) h) (omega (arith, mul-one (suc d), mul-one d))
-
--- the last digit is its radix's largest: it starts again at 0, and the digits before it stand for one more
-pub number-carry : {rs ds cs : List ℕ} (r : ℕ) → Digits rs ds → Digits rs cs → 0 < r → number rs cs ≡ suc (number rs ds)
-    → number (rs ++ (r ∷ [])) (cs ++ (0 ∷ [])) ≡ suc (number (rs ++ (r ∷ [])) (ds ++ ((r - 1) ∷ [])))
-unfolding number choices
-number-carry {rs} {ds} {cs} r h k p e =
-    rw (number-append (r ∷ []) (0 ∷ []) k, number-append (r ∷ []) ((r - 1) ∷ []) h, e, mul-one r)
-    (omega (arith, suc-mul (number rs ds) r, mul-one (r - 1), zero-mul 1))

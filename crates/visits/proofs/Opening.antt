@@ -9,7 +9,7 @@ use Rattle.room.specs.Room.{seg, put}
 use Rattle.search.specs.declared.ends.End.the-variants.{Space}
 use Rattle.search.specs.declared.limits.Limits.{Limits}
 use Rattle.rows.specs.declared.parts.Made.the-variants.{Live}
-use Rattle.record.specs.declared.Record.{Record}
+use Rattle.results.specs.declared.ran.Record.{Record}
 use Rattle.record.specs.declared.Noted.{Noted}
 use Rattle.record.specs.declared.Noted.the-variants.{Held, Space as NoSpace}
 use Rattle.record.specs.Counts.{counted, answer-in, note-by, held-by, Notable}

@@ -9,11 +9,11 @@ use Rattle.search.specs.declared.ends.End.the-variants.{Done, Steps, Depth, Nam
 use Rattle.search.specs.declared.limits.Limits.{Limits}
 use Rattle.rows.specs.declared.parts.Made.{Made}
 use Rattle.rows.specs.declared.parts.Made.the-variants.{Dead, Names as ManyNames, Large, Live}
-use Rattle.record.specs.declared.Record.{Record}
+use Rattle.results.specs.declared.ran.Record.{Record}
 use Rattle.record.specs.declared.Noted.{Noted}
 use Rattle.record.specs.declared.Noted.the-variants.{Held, Space as NoSpace}
 use Rattle.record.specs.Counts.{counted, answer-in, note-by, held-by, Notable}
-use Rattle.visits.specs.declared.node.Ending.{Ending}
+use Rattle.results.specs.declared.ran.Ending.{Ending}
 use Rattle.visits.specs.declared.node.Turn.{Turn}
 use Rattle.visits.specs.declared.node.Turn.the-variants.{At, End}
 use Rattle.visits.specs.Number.{number-words}

@@ -6,19 +6,14 @@ ghost use Rattle.rows.specs.declared.parts.Made.the-variants as kinds;
 ghost use Rattle.visits.specs.Visiting.{OpenParts, most-of, back-to, due-ending, node-turn, node-room, node-answers};
 use crate::number::set_number;
 use record::Noted;
-use record::Record;
 use record::note;
 use record::with_nodes;
+use results::ran::Ending;
+use results::ran::Record;
 use rows::header::HEADER;
 use rows::parts::Made;
 use search::ends::End;
 use search::limits::Limits;
-
-// How a run ended, and what it counted.
-pub struct Ending {
-    pub end: End,
-    pub counts: Record,
-}
 
 pub enum Turn {
     // the search goes on from the row of this level

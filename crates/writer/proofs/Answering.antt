@@ -1,36 +1,34 @@
 -- From what writing comes to, to what is answered and held: 6, then 7, then the text from the buffer's start.
-use Prim.Native.Nat.{ℕ, zero, suc, _+_, _≤_, _<_, min}
+use Prim.Native.Nat.{ℕ, _+_, _≤_, _<_, min}
 use native.Mathlib.Nat.{zero-add}
 use native.Mathlib.Omega.{arith}
 use mathlib.Core.Path.{_≡_, refl, sym, ap, _∙_}
-use mathlib.Core.Bool.{true, false, cond}
-use mathlib.Core.List.{List, [], _∷_, _++_}
+use mathlib.Core.List.{List, _++_}
 use lib.Dec.{ltb}
-use lib.ListN.{length, drop, take}
-use lib.Seq.{sets, sets-eq}
+use lib.ListN.{length, drop}
+use lib.Seq.{sets-eq}
 use borrow.Author.Tests.{lt-ltb, le-ltb, ltb-true, ltb-false}
-use Rattle.terms.specs.Bounds.{Bounds, edition-one, edition-one-proper}
+use Rattle.terms.specs.Bounds.{edition-one, edition-one-proper}
 use Rattle.checks.specs.Check.{check-question}
 use Rattle.terms.specs.Kind.{Worded}
-use Rattle.checks.specs.Lent.{Asked, check-question-asked}
+use Rattle.checks.specs.Lent.{check-question-asked}
 use Rattle.terms.specs.Lists.{cases}
-use Rattle.terms.specs.Formed.{Question, sides, row}
+use Rattle.terms.specs.Formed.{Question}
 use Rattle.terms.specs.Reading.{question-of}
 use Rattle.terms.specs.declared.refusal.Cause.the-variants.{Nesting, Buffer}
 use Rattle.terms.specs.declared.refusal.Refusal.{Refusal}
-use Rattle.terms.specs.declared.refusal.Checked.{Checked}
 use Rattle.terms.specs.declared.refusal.Checked.the-variants.{Fine}
 use Rattle.terms.specs.declared.refusal.Checked.the-variants as checked
 use Rattle.text.specs.Text.{question-text}
 use Rattle.pen.specs.Depths.{First, all-within, first-at}
 use Rattle.lines.specs.Lines.{question-lines}
-use Rattle.pen.specs.Pen.{most, counted, Wrote}
-use Rattle.pen.specs.Walk.{Walk, ended, too-deep, Passed, was-ended, was-too-deep}
+use Rattle.pen.specs.Pen.{most, counted}
+use Rattle.pen.specs.Walk.{Walk, ended, Passed, was-ended, was-too-deep}
 use Rattle.writer.specs.Written.{fitted, nested, tested, held, too-deep-in, question-written, answered, measured}
 use Rattle.pen.specs.declared.put.Passage.{Passage}
 use Rattle.pen.specs.declared.put.Passage.the-variants.{To, TooDeep}
-use Rattle.writer.specs.declared.written.Written.{Written}
-use Rattle.writer.specs.declared.written.Written.the-variants.{Length, Refused}
+use Rattle.results.specs.declared.written.Written.{Written}
+use Rattle.results.specs.declared.written.Written.the-variants.{Length, Refused}
 use Rattle.writer.proofs.Questions.{settled, question-over}
 
 -- measuring tells what is to be answered

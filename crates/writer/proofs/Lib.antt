@@ -1,4 +1,2 @@
 pub mod Questions
-pub mod Listings
 pub mod Answering
-pub mod AnswerLists

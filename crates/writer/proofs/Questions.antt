@@ -1,5 +1,5 @@
 -- The lines of a question, walked over its words, are the text of the question, or stop at the first word whose bracket stands too deep.
-use Prim.Native.Nat.{ℕ, zero, suc, _+_, _≤_}
+use Prim.Native.Nat.{ℕ, _+_}
 use native.Mathlib.Nat.{add-zero, zero-add}
 use native.Mathlib.Omega.{arith}
 use mathlib.Core.Path.{_≡_, refl, sym, ap, _∙_}
@@ -15,13 +15,13 @@ use Rattle.terms.specs.Lists as lists
 use Rattle.terms.specs.Term.{Term, words, size}
 use Rattle.terms.specs.Formed.{Formed, Equation, sides, row, Question}
 use Rattle.text.specs.Keys.{left-key, right-key}
-use Rattle.text.specs.Text.{text, line, equation-lines, question-text, decimal, numbers}
+use Rattle.text.specs.Text.{text, line, equation-lines, question-text}
 use Rattle.pen.specs.Depths.{depths, row-depths, First, all-within, first-at, found, first-above}
 use Rattle.lines.specs.Lines.{term-line, repeat, equation-at, header, question-lines}
 use Rattle.pen.specs.Opened.{closing, closed}
 use Rattle.pen.specs.Walk.{then, Walk, ended, too-deep, prepend, onward, walk, term-at}
 use Rattle.writer.specs.Written.{too-deep-in}
-use Rattle.pen.specs.Guarded.{guard, guard-append, guard-prepend, prepend-append}
+use Rattle.pen.specs.Guarded.{guard}
 use Rattle.pen.specs.Tied.{Part, chain, from, on-to, before, spelt, finish, due-first, over, length-depths}
 
 -- ---- a guarded walk by its first bracket too deep

@@ -27,8 +27,8 @@ use Rattle.pen.specs.Pen.{counted}
 use Rattle.pen.specs.Walk.{Walk, ended, too-deep, Passed}
 use Rattle.pen.specs.declared.put.Passage.{Passage}
 use Rattle.pen.specs.declared.put.Passage.the-variants.{To, TooDeep}
-use Rattle.writer.specs.declared.written.Written.{Written}
-use Rattle.writer.specs.declared.written.Written.the-variants.{Length, Refused}
+use Rattle.results.specs.declared.written.Written.{Written}
+use Rattle.results.specs.declared.written.Written.the-variants.{Length, Refused}
 
 -- 7: a buffer that is shorter than the text, with the length needed
 unfoldable pub fitted : ℕ → List ℕ → Written

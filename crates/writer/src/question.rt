@@ -6,10 +6,10 @@ ghost use Rattle.terms.specs.Reading.{question-of};
 ghost use Rattle.text.specs.Text.{question-text};
 ghost use Rattle.lines.specs.Lines.{question-lines};
 ghost use Rattle.writer.specs.Written.{held, question-written, measured};
-use crate::written::Written;
 use crate::written::answer;
-use checks::check::check_question;
+use lent_words::check_question;
 use lines::question_lines::write_lines;
+use results::written::Written;
 use terms::refusal::Checked;
 
 // What is to be answered for checked words where so many bytes are lent: the text is written to a buffer that holds nothing.

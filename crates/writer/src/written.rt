@@ -2,14 +2,9 @@
 ghost use mathlib.Core.Path.{_≡_};
 ghost use Rattle.writer.specs.Written.{answered};
 use pen::put::Passage;
+use results::written::Written;
 use terms::refusal::Cause;
 use terms::refusal::Refusal;
-
-// The text's length, or why nothing is written.
-pub enum Written {
-    Length(usize),
-    Refused(Refusal),
-}
 
 // What is answered where so many bytes are lent, by what writing the text comes to.
 pub fn answer(passage: Passage, room: usize) -> Written

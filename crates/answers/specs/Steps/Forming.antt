@@ -5,9 +5,8 @@ use mathlib.Core.Path.{_≡_}
 use mathlib.Core.List.{List}
 use mathlib.Core.Bool.{false}
 use lib.Dec.{eqb}
-use Rattle.terms.specs.Lists.{All, none, both}
-use Rattle.terms.specs.Term.{Term, Terms, unknown, empty, with, functor, subst, kernel, list}
-use Rattle.terms.specs.Formed.{Formed, Formed*, formed-unknown, formed-none, formed-more}
+use Rattle.terms.specs.Term.{Term, unknown, empty, with, functor, subst, kernel}
+use Rattle.terms.specs.Formed.{Formed, formed-unknown}
 
 -- the number of a formed unknown
 pub formed-below : {arities : List ℕ} {n i : ℕ} → Formed arities n (unknown i) → i < n

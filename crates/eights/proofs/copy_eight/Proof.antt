@@ -1,6 +1,5 @@
 -- `eights::copy_eight`: the words read are those of the part, and what the two calls tell of them is told of it.
 use borrow.Author.Needs.{needs}
-use borrow.Author.Tests.{not-true, not-false}
 use Rattle.eights.proofs.Eight.{copied, left}
 use Rattle.eights.proofs.copy_eight.Statement.{statement}
 use Rattle.eights.proofs.copy_eight.Tie as tie

@@ -15,7 +15,7 @@ use Rattle.search.specs.Ends.{end-number}
 use Rattle.search.specs.Run.{Outcome, ran}
 use Rattle.answers.specs.Fits.{States, Meets, Fits}
 use Rattle.answers.specs.DemandTwo as demand
-use Rattle.solver.specs.Result.{gives}
+use Rattle.results.specs.Result.{gives}
 use Rattle.guarantees.specs.Calls.{Posed, asked, Lending, loan-of, run-told}
 use Rattle.guarantees.specs.Wording.{Granted, Read-once}
 use Rattle.guarantees.specs.Proofs.Granting.{granted-exactly, done-by-number}

@@ -23,10 +23,10 @@ use Rattle.search.specs.declared.ends.End.the-variants.{Done, Steps, Depth, Nam
 use Rattle.search.specs.Ends.{end-number}
 use Rattle.search.specs.Lent.{most-steps, most-depth, most-size}
 use Rattle.search.specs.Run.{Outcome, ran}
-use Rattle.visits.specs.Loans.{loan, needed, ending}
-use Rattle.solver.specs.Result.{Told, refuses, gives, told, told-within, result}
-use Rattle.visits.specs.declared.node.Ending.{Ending}
-use Rattle.solver.specs.declared.Ran.the-variants.{Ended}
+use Rattle.results.specs.Loans.{loan, needed, ending}
+use Rattle.results.specs.Result.{Told, refuses, gives, told, told-within, result}
+use Rattle.results.specs.declared.ran.Ending.{Ending}
+use Rattle.results.specs.declared.ran.Ran.the-variants.{Ended}
 use Rattle.guarantees.specs.Calls.{Posed, asked, Lending, loan-of, run-told}
 use Rattle.guarantees.specs.Wording.{Granted}
 use Rattle.guarantees.specs.Proofs.{impossible}

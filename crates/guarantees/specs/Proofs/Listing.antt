@@ -34,8 +34,8 @@ use Rattle.promises.specs.Runs.Lending.{listed-append}
 use Rattle.pen.specs.Pen.{counted as as-counted}
 use Rattle.pen.specs.Depths.{First, all-within, first-at}
 use Rattle.writer.specs.Written.{check-list, tested, nested, fitted, list-written}
-use Rattle.writer.specs.declared.written.Written.the-variants.{Length, Refused}
-use Rattle.solver.specs.Result.{gives, words-told}
+use Rattle.results.specs.declared.written.Written.the-variants.{Length, Refused}
+use Rattle.results.specs.Result.{gives, words-told}
 use Rattle.guarantees.specs.Calls.{Posed, Lending, loan-of, run-told, answers-after, used, list-told}
 use Rattle.guarantees.specs.Wording.{Granted}
 use Rattle.guarantees.specs.Proofs.{impossible}

@@ -13,7 +13,7 @@ use Rattle.search.specs.Ends.{end-number}
 use Rattle.search.specs.Run.{Loan, Outcome, ran}
 use Rattle.promises.specs.Promises
 use Rattle.promises.specs.Wording.{NoLess, Begins, followed-by}
-use Rattle.solver.specs.Result.{gives}
+use Rattle.results.specs.Result.{gives}
 use Rattle.guarantees.specs.Calls.{Posed, asked, Lending, loan-of, in-room, run-told, answers-after, used}
 use Rattle.guarantees.specs.Wording.{Granted}
 use Rattle.guarantees.specs.Proofs.Granting.{granted-exactly, done-by-number}

@@ -35,15 +35,15 @@ use Rattle.reader.specs.Lent.{question-into, answer}
 use Rattle.question_reader.specs.Questions as reader
 use Rattle.reader.specs.Lent as lent
 use Rattle.question_reader.specs.WholePlaces.{question-placed}
-use Rattle.question_reader.specs.declared.whole.Question.the-variants as reading
+use Rattle.results.specs.declared.read.Question.the-variants as reading
 use Rattle.pen.specs.Depths.{First}
 use Rattle.writer.specs.Written.{tested, question-written, list-written, check-list}
-use Rattle.writer.specs.declared.written.Written.the-variants as writing
+use Rattle.results.specs.declared.written.Written.the-variants as writing
 use Rattle.same.specs.Answering.{equality-after, equal-answer, solving-after, solves-answer}
-use Rattle.same.specs.declared.Equality.the-variants as equality
-use Rattle.same.specs.declared.Solving.the-variants as solving
-use Rattle.visits.specs.Loans.{needed, loan}
-use Rattle.solver.specs.Result.{Told, refuses, gives, told, told-within}
+use Rattle.results.specs.declared.compared.Equality.the-variants as equality
+use Rattle.results.specs.declared.compared.Solving.the-variants as solving
+use Rattle.results.specs.Loans.{needed, loan}
+use Rattle.results.specs.Result.{Told, refuses, gives, told, told-within}
 use Rattle.guarantees.specs.Calls.{Posed, asked, Lending, loan-of, run-told, question-told, list-told, solves-told, text-told}
 use Rattle.guarantees.specs.Wording.{One-of}
 use Rattle.guarantees.specs.Proofs.{impossible}

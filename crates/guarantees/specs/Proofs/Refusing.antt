@@ -7,11 +7,11 @@ use Rattle.terms.specs.declared.refusal.Refusal.{Refusal}
 use Rattle.numerals.specs.Reading.{Reading, read, refused}
 use Rattle.reader.specs.Lent.{answer, laid}
 use Rattle.question_reader.specs.Questions as reader
-use Rattle.question_reader.specs.declared.whole.Question.the-variants as reading
+use Rattle.results.specs.declared.read.Question.the-variants as reading
 use Rattle.writer.specs.Written.{held}
-use Rattle.writer.specs.declared.written.Written.the-variants as writing
-use Rattle.solver.specs.Result.{Told, refuses, gives, result, words-told}
-use Rattle.solver.specs.declared.Ran.the-variants as running
+use Rattle.results.specs.declared.written.Written.the-variants as writing
+use Rattle.results.specs.Result.{Told, refuses, gives, result, words-told}
+use Rattle.results.specs.declared.ran.Ran.the-variants as running
 use Rattle.guarantees.specs.Calls.{Posed, Lending, run-told, answers-after, question-told, question-after, list-told, list-after, text-told, arities-after, words-after}
 use Rattle.guarantees.specs.Proofs.{impossible}
 

@@ -25,16 +25,16 @@ use Rattle.question_reader.specs.Questions.{question as asks-of}
 use Rattle.reader.specs.Lent.{question-into, answer, laid}
 use Rattle.question_reader.specs.Questions as reader
 use Rattle.reader.specs.Lent as lent
-use Rattle.question_reader.specs.declared.whole.Question.{Question as Counted}
-use Rattle.question_reader.specs.declared.whole.Question.the-variants.{Read}
-use Rattle.question_reader.specs.declared.whole.Question.the-variants as question
+use Rattle.results.specs.declared.read.Question.{Question as Counted}
+use Rattle.results.specs.declared.read.Question.the-variants.{Read}
+use Rattle.results.specs.declared.read.Question.the-variants as question
 use Rattle.roundtrip.specs.QuestionText as there
 use Rattle.roundtrip.specs.QuestionSpans.{Comes-from, comes-from}
 use Rattle.roundtrip.specs.QuestionSpans as back
 use Rattle.pen.specs.Depths.{First, all-within, first-at}
 use Rattle.pen.specs.Pen.{counted}
 use Rattle.writer.specs.Written.{fitted, nested, tested, held, too-deep-in, question-written}
-use Rattle.writer.specs.declared.written.Written.the-variants.{Length, Refused}
+use Rattle.results.specs.declared.written.Written.the-variants.{Length, Refused}
 use Rattle.guarantees.specs.Calls.{Posed, asked, in-words, question-told, question-after, text-told, arities-after, words-after}
 use Rattle.guarantees.specs.Wording.{Nests-within, Writable, Writes, Reads, question-in, One-of}
 use Rattle.guarantees.specs.Proofs.{impossible}

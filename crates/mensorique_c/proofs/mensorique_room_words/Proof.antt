@@ -4,7 +4,7 @@ use borrow.Author.Needs.{needs}
 use borrow.Author.Tests.{lt-ltb, le-ltb}
 use native.Mathlib.Nat.{mul-le-mul}
 use native.Mathlib.Omega.{arith}
-use Rattle.visits.specs.Loans.{needed}
+use Rattle.results.specs.Loans.{needed}
 use Rattle.mensorique_c.proofs.mensorique_room_words.Statement.{statement}
 use Rattle.mensorique_c.proofs.mensorique_room_words.Tie as tie
 

@@ -1,15 +1,13 @@
 -- Which unknowns occur in a term after a step has taken it apart, put it together or put a term into it; and that it stays formed.
-use Prim.Native.Nat.{ℕ, suc, _≤_}
-use mathlib.Core.Path.{_≡_, refl, ap, _∙_}
+use Prim.Native.Nat.{ℕ}
+use mathlib.Core.Path.{_≡_, refl, _∙_}
 use mathlib.Core.List.{List}
 use mathlib.Core.Bool.{Bool, true, false, false≢true, _||_, cond}
 use lib.Dec.{eqb}
 use borrow.Author.Tests.{eqb-true, eqb-false}
-use native.Mathlib.Omega.{arith}
 use Rattle.terms.specs.Lists.{All, none as all-none, both, All-map, or-left, or-right}
-use Rattle.terms.specs.Term.{Term, Terms, unknown, empty, with, functor, none, more, members, kernel, over, list, count, occurs, occurs*, subst, subst*}
+use Rattle.terms.specs.Term.{Term, Terms, unknown, empty, with, functor, none, more, members, kernel, over, list, occurs, occurs*, subst, subst*}
 use Rattle.laws.specs.Substitution.{or-else}
-use Rattle.terms.specs.Formed.{Formed, Formed*, formed-unknown, formed-empty, formed-with, formed-functor, formed-none, formed-more}
 
 -- each unknown of the one occurs in the other
 abbrev pub Within : Term → Term → Type 0

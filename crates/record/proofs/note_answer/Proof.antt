@@ -35,10 +35,10 @@ use denote.Triple.Spec.{Meets, tripleOf}
 use denote.Triple.Table.{entered}
 use denote.Triple.Walked.{says, needs, Stays, stay-ref, stay-none, walkOf, AllGo, goes-none, goes-ref, Walks, ends-at, walked, walk-meets}
 use denote.Exit.{yes}
-use Rattle.record.specs.declared.Record.{Record}
+use Rattle.results.specs.declared.ran.Record.{Record}
 use Rattle.record.specs.Counts.{noted}
-use Rattle.record.proofs.Record as T
-use Rattle.record.proofs.Record.Laws as T′
+use Rattle.results.proofs.ran.Record as T
+use Rattle.results.proofs.ran.Record.Laws as T′
 use Rattle.record.proofs.note_answer.Key.{name as #key}
 use Rattle.record.proofs.note_answer as f
 use Rattle.record.proofs.note_answer.Statement as stated

@@ -9,7 +9,7 @@ use Rattle.replace.proofs.replace_all.Tie as tie
 use Rattle.replace.proofs.replace_all.Reads as reads
 use Rattle.replace.proofs.replace_all.Lts as lts
 use Rattle.room.proofs.copy.Reads as copy-reads
-use Rattle.replace.proofs.copy_before.Reads as copy-before-reads
+use Rattle.eights.proofs.copy_before.Reads as copy-before-reads
 use Rattle.replace.proofs.smaller.Reads as smaller-reads
 
 abbrev Inv-loop : tie.InvT-loop

@@ -2,9 +2,10 @@
 use mathlib.Core.Path.{sym, _∙_}
 use native.Mathlib.Omega.{arith}
 use lib.Seq.{length-take-le}
-use Rattle.visits.specs.Loans.{needed}
+use Rattle.results.specs.Loans.{needed}
 use Rattle.search_loop.proofs.Standing.{needed-small}
-use Rattle.solver.proofs.Telling.{faulty, small-room, fine-run, asking}
+use Rattle.results.specs.Telling.{faulty, small-room}
+use Rattle.solver.proofs.Telling.{fine-run, asking}
 use borrow.Author.Needs.{needs}
 use Rattle.solver.proofs.run_within.Statement.{statement}
 use Rattle.solver.proofs.run_within.Tie as tie

@@ -1,7 +1,7 @@
 -- `text_solver::solve_text`: the question was read and is run, or its refusal is printed.
 use mathlib.Core.Path.{sym}
 use lib.Seq.{length-take-le}
-use Rattle.text_solver.specs.Solved.{solved, found}
+use Rattle.printing.specs.Solved.{solved, found}
 use Rattle.text_solver.proofs.Handing.{question-taken, text-refused}
 use borrow.Author.Needs.{needs}
 use Rattle.text_solver.proofs.solve_text.Statement.{statement}

@@ -1,7 +1,7 @@
 -- `text_solver::solve_words`: the run ended and its list is printed, or its refusal.
 use mathlib.Core.Path.{sym}
 use lib.Seq.{length-take-le}
-use Rattle.text_solver.specs.Solved.{of-words}
+use Rattle.printing.specs.Solved.{of-words}
 use Rattle.text_solver.proofs.Handing.{run-ended, run-refused}
 use borrow.Author.Needs.{needs}
 use Rattle.text_solver.proofs.solve_words.Statement.{statement}

@@ -1,7 +1,7 @@
 use borrow.Author.Needs.{needs}
 use native.Mathlib.Omega.{arith}
-use mathlib.Core.Path.{sym, _∙_}
-use Rattle.text.specs.Decimal.{decimal-digit, decimal-more, tenth, last-digit}
+use mathlib.Core.Path.{sym}
+use Rattle.text.specs.Decimal.{decimal-digit, decimal-more, tenth}
 use Rattle.pen.specs.Writing.{wrote-then, wrote-as, length-wrote}
 use Prim.Native.Nat.{ℕ, _<_}
 use borrow.Fn.Kinds.{In}

@@ -1,0 +1,51 @@
+-- `printing::print_list`: the writer takes the list, or its refusal is printed.
+use mathlib.Core.Path.{_∙_}
+use Rattle.printing.proofs.Printing.{list-printed, list-refused}
+use borrow.Author.Needs.{needs}
+use Rattle.printing.proofs.print_list.Statement.{statement}
+use Rattle.printing.proofs.print_list.Tie as tie
+
+number-of-end-requires : tie.Need-number-of-end-requires
+number-of-end-requires c κs = search needs
+
+wide-requires : tie.Need-wide-requires
+wide-requires c κs = search needs
+
+write-answers-requires : tie.Need-write-answers-requires
+write-answers-requires c κs = search needs
+
+enum-known-length : tie.Need-enum-known-length
+enum-known-length c = search needs
+
+enum-known-refusal : tie.Need-enum-known-refusal
+enum-known-refusal c = search needs
+
+print-refusal-requires : tie.Need-print-refusal-requires
+print-refusal-requires c κs = search needs
+
+same-length : tie.Need-same-length
+same-length c = search needs
+
+returns : tie.Need-returns
+returns c = list-printed _ _ _ _ (c .before .before .before .before .before .before .before .wide .ensures ∙ c .before .before .before .before .before .before .before .before .number-of-end .ensures) (c .before .before .before .before .before .before .before .before .before .before .before .before .before .pre) (c .before .before .before .before .before .write-answers .ensures) (c .before .length .given .1)
+
+same-length-2 : tie.Need-same-length-2
+same-length-2 c = search needs
+
+returns-2 : tie.Need-returns-2
+returns-2 c = list-refused _ _ _ _ (c .before .before .before .before .before .before .before .before .before .before .before .wide .ensures ∙ c .before .before .before .before .before .before .before .before .before .before .before .before .number-of-end .ensures) (c .before .before .before .before .before .before .before .before .before .before .before .before .before .before .before .before .before .pre) (c .before .before .before .before .before .before .before .before .before .write-answers .ensures) (c .before .before .before .before .before .refusal .given .1) (c .before .before .print-refusal .ensures)
+
+pub print-list-spec : {M : Type 1} → statement M
+print-list-spec =
+    tie.close
+    (tie.spec
+    number-of-end-requires
+    wide-requires
+    write-answers-requires
+    enum-known-length
+    enum-known-refusal
+    print-refusal-requires
+    same-length
+    returns
+    same-length-2
+    returns-2)

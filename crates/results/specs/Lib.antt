@@ -1,0 +1,3 @@
+pub mod Loans
+pub mod Result
+pub mod Telling
