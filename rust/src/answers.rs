@@ -90,7 +90,7 @@ impl<'a> List<'a> {
         self.words
     }
 
-    /// The list's text form.
+    /// The list's text form. Refused where a value nests too deep for a text, or this machine has no memory for it.
     pub fn text(&self) -> Result<String, Refusal> {
         let end = self.end as u64;
         written(|text| {
@@ -203,7 +203,7 @@ impl Answers {
         &self.words
     }
 
-    /// The list's text form.
+    /// The list's text form: see [`List::text`].
     pub fn text(&self) -> Result<String, Refusal> {
         self.list().text()
     }

@@ -76,11 +76,11 @@ impl Room {
     }
 }
 
-/// An empty vector with capacity for so many words, or the refusal that they cannot be had.
-pub(crate) fn reserved(what: What, words: usize) -> Result<Vec<u16>, Refusal> {
+/// An empty vector with capacity for so many words or bytes, or the refusal that they cannot be had.
+pub(crate) fn reserved<T>(what: What, count: usize) -> Result<Vec<T>, Refusal> {
     let mut reserved = Vec::new();
-    match reserved.try_reserve_exact(words) {
+    match reserved.try_reserve_exact(count) {
         Ok(()) => Ok(reserved),
-        Err(_) => Err(Refusal::memory(what, words)),
+        Err(_) => Err(Refusal::memory(what, count)),
     }
 }

@@ -201,7 +201,7 @@ pub fn equal(arities: &[u8], left: &Term, right: &Term) -> Result<bool, Refusal>
     words::equal(arities, &row)
 }
 
-/// Measures a text by lending nothing, then writes it.
+/// Measures a text by lending nothing, then writes it. A text that this machine has no memory for is refused, with [`Cause::Buffer`].
 pub(crate) fn written(
     write: impl Fn(&mut [u8]) -> Result<usize, Refusal>,
 ) -> Result<String, Refusal> {
@@ -210,7 +210,11 @@ pub(crate) fn written(
             cause: Cause::Buffer,
             place,
             ..
-        }) => vec![0; place],
+        }) => {
+            let mut text = reserved(What::Text, place)?;
+            text.resize(place, 0);
+            text
+        }
         Err(refusal) => return Err(refusal),
         Ok(_) => Vec::new(),
     };

@@ -37,6 +37,8 @@ pub enum What {
     AnswerWords,
     /// The words of room: there is no limit but this machine's memory.
     Room,
+    /// The bytes of a text to be written: there is no limit but this machine's memory.
+    Text,
     /// The count of unknowns, or an unknown's number.
     Unknowns,
     /// The count of functors, or a functor's number.
@@ -67,7 +69,7 @@ impl What {
             What::Arity => most::ARITY.into(),
             What::Equations => most::EQUATIONS as u64,
             What::Words => most::WORDS as u64,
-            What::AnswerWords | What::Room | What::Edition | What::End => return None,
+            What::AnswerWords | What::Room | What::Text | What::Edition | What::End => return None,
         })
     }
 }
@@ -80,6 +82,7 @@ impl fmt::Display for What {
             What::Size => "size",
             What::AnswerWords => "words for answers",
             What::Room => "words of room",
+            What::Text => "bytes of text",
             What::Unknowns => "unknowns",
             What::Functors => "functors",
             What::Arity => "arity",
@@ -169,11 +172,11 @@ impl Refusal {
         })
     }
 
-    /// So many words cannot be had.
-    pub(crate) fn memory(what: What, words: usize) -> Refusal {
+    /// So many words or bytes cannot be had.
+    pub(crate) fn memory(what: What, count: usize) -> Refusal {
         Refusal {
-            culprit: Some(Culprit::new(what, words)),
-            ..Refusal::new(Cause::Buffer, words)
+            culprit: Some(Culprit::new(what, count)),
+            ..Refusal::new(Cause::Buffer, count)
         }
     }
 }

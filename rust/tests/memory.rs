@@ -1,14 +1,16 @@
-//! What the crate asks of memory: kept answers keep their words alone, room and words for answers are not cleared, and lent words are used as they are.
-use mensorique::{End, Limits, Question, Refusal, Room, Term};
+//! What the crate asks of memory: kept answers keep their words alone, room and words for answers are not cleared, lent words are used as they are, and a text that
+//! no memory holds is refused.
+use mensorique::{Cause, End, Limits, Question, Refusal, Room, Term, What};
 use std::alloc::{GlobalAlloc, Layout, System};
 use std::cell::Cell;
 
-/// The system's memory, counted for each thread.
+/// The system's memory, counted for each thread, which may be told that there is little at one go.
 struct Counted;
 
 thread_local! {
     static HELD: Cell<isize> = const { Cell::new(0) };
     static CALLS: Cell<usize> = const { Cell::new(0) };
+    static MOST: Cell<usize> = const { Cell::new(usize::MAX) };
 }
 
 fn count(bytes: isize) {
@@ -18,6 +20,12 @@ fn count(bytes: isize) {
 
 unsafe impl GlobalAlloc for Counted {
     unsafe fn alloc(&self, layout: Layout) -> *mut u8 {
+        if MOST
+            .try_with(|most| layout.size() > most.get())
+            .unwrap_or(false)
+        {
+            return std::ptr::null_mut();
+        }
         count(layout.size() as isize);
         unsafe { System.alloc(layout) }
     }
@@ -136,4 +144,29 @@ fn no_more_is_asked_for_than_can_be_listed() {
     assert_eq!((answers.end(), answers.words().len()), (End::Done, 5));
     let none = question.run(lent(usize::MAX, 0, 4)).unwrap();
     assert_eq!((none.end(), none.words().len()), (End::Steps, 0));
+}
+
+/// Where memory for a text cannot be had, the refusal tells how long it is; with so much it is written.
+#[test]
+fn a_text_that_no_memory_holds_is_refused() {
+    let question = question();
+    let answers = question.run(Limits::default()).unwrap();
+    let (asked, listed) = (question.text().unwrap(), answers.text().unwrap());
+    let within = |most, write: &dyn Fn() -> Result<String, Refusal>| {
+        MOST.set(most);
+        let given = write();
+        MOST.set(usize::MAX);
+        given
+    };
+    let texts: [(&str, &dyn Fn() -> Result<String, Refusal>); 2] =
+        [(&asked, &|| question.text()), (&listed, &|| answers.text())];
+    for (text, write) in texts {
+        let length = text.len();
+        assert_eq!(within(length, write).unwrap(), text);
+        let refusal = within(length - 1, write).unwrap_err();
+        assert_eq!((refusal.cause, refusal.place), (Cause::Buffer, length));
+        assert_eq!(refusal.culprit.unwrap().what, What::Text);
+        let said = format!("bytes of text: this machine has no memory for {length}");
+        assert_eq!(refusal.to_string(), said);
+    }
 }
