@@ -152,14 +152,14 @@ fn a_text_that_no_memory_holds_is_refused() {
     let question = question();
     let answers = question.run(Limits::default()).unwrap();
     let (asked, listed) = (question.text().unwrap(), answers.text().unwrap());
-    let within = |most, write: &dyn Fn() -> Result<String, Refusal>| {
+    type Write<'a> = &'a dyn Fn() -> Result<String, Refusal>;
+    let within = |most, write: Write| {
         MOST.set(most);
         let given = write();
         MOST.set(usize::MAX);
         given
     };
-    let texts: [(&str, &dyn Fn() -> Result<String, Refusal>); 2] =
-        [(&asked, &|| question.text()), (&listed, &|| answers.text())];
+    let texts: [(_, Write); 2] = [(asked, &|| question.text()), (listed, &|| answers.text())];
     for (text, write) in texts {
         let length = text.len();
         assert_eq!(within(length, write).unwrap(), text);
