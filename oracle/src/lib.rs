@@ -1,4 +1,5 @@
-//! Document 01 in plain Rust, written from the paper alone: trees, vectors and recursion.
+//! The specification, `docs/SPECIFICATION.md`, in plain Rust, written apart from the component: trees, vectors
+//! and recursion.
 //! It is held against the proved component; `fast` is the baseline that the component's speed is measured by.
 
 pub mod cases;

@@ -46,7 +46,7 @@ fn print_lines(lines: impl Iterator<Item = String>) -> Result<(), String> {
     output.flush().map_err(|cause| cause.to_string())
 }
 
-/// Trials of demands 2 and 3, and of the fast search against the plain one.
+/// Trials of promises 2 and 3 (`docs/PROMISES.md`), and of the fast search against the plain one.
 fn check(seed: u64, count: u64) -> Result<(), String> {
     let tally = oracle::check::check(seed, count)?;
     println!("{tally:#?}");

@@ -1,4 +1,4 @@
-//! Terms as trees, how they are written in words, and the numbers of document 01: limits, ends and refusals.
+//! Terms as trees, how they are written in words, and the specification's numbers: limits, ends and refusals.
 
 use crate::words::check_question;
 use std::rc::Rc;
@@ -20,7 +20,7 @@ pub const WITH: u16 = 1;
 pub const UNKNOWN: u16 = 1000;
 pub const FUNCTOR: u16 = 2000;
 
-/// A refusal: its number in 01's table, and the place.
+/// A refusal: its number in the specification's table (section 7), and the place.
 #[derive(Clone, Copy, Debug, PartialEq, Eq)]
 pub struct Refusal {
     pub number: u8,

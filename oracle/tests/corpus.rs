@@ -1,4 +1,4 @@
-//! The corpus: cases written by hand with the results that document 01 asks for, and generated ones.
+//! The corpus: cases written by hand with the results that the specification asks for, and generated ones.
 
 use oracle::cases::{result, Oracle};
 use oracle::edges::Edge;

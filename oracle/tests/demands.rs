@@ -1,4 +1,4 @@
-//! Demands 2 and 3 by trial, the fast search against the plain one, equality against 01's own sentence,
+//! Promises 2 and 3 by trial, the fast search against the plain one, equality against the specification's sentence,
 //! and that no input makes anything panic.
 
 use oracle::cases::{result, Oracle};
@@ -25,8 +25,8 @@ fn nearby_seeds_are_unrelated() {
     }
 }
 
-/// Document 01: the kernels must both be empty sets, or the same functor with equal arguments; and each member
-/// of either term must equal some member of the other.
+/// The specification, 2.2: the kernels are both empty sets, or the same functor with equal arguments; and each
+/// member of either term is equal to some member of the other.
 fn equal_by_the_sentence(left: &Term, right: &Term) -> bool {
     let (these, kernel) = left.strip();
     let (those, other) = right.strip();

@@ -1,4 +1,4 @@
-//! Document 01's specimens, and the program `solve`.
+//! The specification's specimens, and the program `solve`.
 
 use oracle::search::{search, Loan};
 use oracle::solve::solve;

@@ -1,4 +1,4 @@
-//! The cases that independent implementations of document 01 agreed on before.
+//! The cases that independent implementations agreed on before.
 
 use oracle::cases::{result, Oracle};
 

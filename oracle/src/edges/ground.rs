@@ -1,4 +1,4 @@
-//! The edges of equality and of values: 01's specimens, deep and long rows, and the refusals of rows.
+//! The edges of equality and of values: the specification's specimens, deep and long rows, and the refusals of rows.
 
 use super::{add, words, Edge};
 

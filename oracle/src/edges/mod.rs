@@ -1,5 +1,5 @@
-//! Cases written by hand from document 01, with the results that it asks for: every refusal and its places,
-//! the ends of a run, and the points where the paper was read with care.
+//! Cases written by hand from the specification, with the results that it asks for: every refusal and its places,
+//! the ends of a run, and the points where it is easily misread.
 //!
 //! Each refusal of each entry has at least one, and `tests/corpus.rs` counts them:
 //!
@@ -19,7 +19,7 @@ mod reading;
 mod running;
 mod writing;
 
-/// A case with the result that the paper asks for, and why.
+/// A case with the result that the specification asks for, and why.
 pub struct Edge {
     pub why: &'static str,
     pub case: String,

@@ -1,4 +1,4 @@
-//! The edges of a search: 01's specimens, and the kinds and order of its steps, worked out by hand.
+//! The edges of a search: the specification's specimens, and the kinds and order of its steps, worked out by hand.
 
 use super::{add, Edge};
 use crate::cases::hex;
@@ -45,7 +45,7 @@ fn specimens(edges: &mut Vec<Edge>) {
         (&["x0 = f3(x0)"], "0 2 0 -"),
         (&[], "0 1 1 0"),
     ] {
-        run(edges, "01's specimens", WIDE, 1, equations, result);
+        run(edges, "the specimens", WIDE, 1, equations, result);
     }
 }
 

@@ -5,7 +5,7 @@ use crate::search::Outcome;
 use crate::terms::*;
 use crate::words::*;
 
-/// The ends of a run: the number in 01's table and the name in the text.
+/// The ends of a run: the number in the specification's table (6.2) and the word in the text.
 pub const ENDS: [(u64, &str); 6] = [
     (0, "done"),
     (20, "steps"),
