@@ -1,4 +1,4 @@
--- Every answer true and none lost: the mission's second demand. A run lists answers to a question; ground values are given to its unknowns. In any
+-- Every answer true and none lost: the second promise of docs/PROMISES.md. A run lists answers to a question; ground values are given to its unknowns. In any
 -- run every listed answer is true; a done run has lost none. Values may be over any functor table, so over every one that extends the declared
 -- table, of whatever length and arities; the values of an answer's new unknowns are over the same.
 use Prim.Native.Nat.{ℕ}

@@ -1,4 +1,4 @@
--- The theorems applied to document 01's specimens, so that none is empty: from the done run of {a|x0} = {b|x0} that x0 = {a,b,c} solves it and
+-- The theorems applied to the specimens (SPECIFICATION 11), so that none is empty: from the done run of {a|x0} = {b|x0} that x0 = {a,b,c} solves it and
 -- x0 = {a} does not; that x0 = {a|x0} is solvable; that a member may be both matched and in the rest; that x0 = {x0} and x0 = g(x0) have no
 -- solution over any functor table; and that what an unfinished run lists is true.
 use Prim.Native.Nat.{ℕ, suc, zero, _<_, _≤_}

@@ -1,4 +1,4 @@
-// How a term begins: its name, its first bracket, or the empty set. At a symbol the refusals come in document 01's order.
+// How a term begins: its name, its first bracket, or the empty set. At a symbol the refusals come in the order of SPECIFICATION 4.4.
 // Words go to a slice that holds as many as a question may have; n is the number of words so far.
 ghost use mathlib.Core.Path.{_≡_};
 ghost use mathlib.Core.List.{List};

@@ -1,4 +1,4 @@
--- The check of lent words, in its three forms: a question, a row of ground terms, a list of answers. Document 01, "How a run ends".
+-- The check of lent words, in its three forms: a question, a row of ground terms, a list of answers. SPECIFICATION 3.5.
 -- All three are one walk over the words with what is still due: answers, bindings of the answer at hand, and terms.
 use Prim.Native.Nat.{ℕ, zero, suc, _+_, _*_}
 use mathlib.Core.List.{List, [], _∷_}

@@ -1,5 +1,5 @@
 -- What lent words hold: a question, a row of ground terms, a list of answers. For each, a check that is fine tells that the words are those of what is read
--- from them, which keeps document 01's limits; and the words of anything within the limits are fine and read back to it.
+-- from them, which keeps the limits of SPECIFICATION 3.2; and the words of anything within the limits are fine and read back to it.
 use Prim.Native.Nat.{ℕ, zero, suc, _*_, _≤_}
 use mathlib.Core.Path.{_≡_, refl, ap, sym, _∙_}
 use mathlib.Core.List.{List, [], _∷_, _++_, append-nil, append-assoc, head-eq-of-cons-eq, tail-eq-of-cons-eq}

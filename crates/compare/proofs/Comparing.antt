@@ -12,7 +12,7 @@ use Rattle.places.specs.Classes.{BothSettled, Settled, Told, some-equals, each-
 use Rattle.places.specs.Relabelled.{one-class, one-label, still-together}
 use Rattle.places.specs.Since.{Since, since-start, since-told, told-since}
 
--- document 01's sentence
+-- the sentence of SPECIFICATION 2.2
 by-parts : (t u : Term) → equal t u ≡ (kernels-equal (kernel t) (kernel u) && each-in (members t) (members u) && each-equalled (members t) (members u))
 unfolding each-equalled some-equals
 by-parts t u = equal-is t u

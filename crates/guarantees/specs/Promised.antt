@@ -1,4 +1,4 @@
--- What a customer may rely on, call by call, under nine heads; read it with document 01 beside it. Nothing is asked of a call but that it gave what it gave: the line
+-- What a customer may rely on, call by call, under nine heads; read it with docs/SPECIFICATION.md beside it. Nothing is asked of a call but that it gave what it gave: the line
 -- `run-told q l ≡ gives o` says that `run`, asked q and lent l, was granted with the outcome o. Nothing is assumed, and each line is proved where it points to.
 --
 -- `Calls` has the terms of the entries' contracts, `Wording` the notions that are new here, `Examples` a specimen for each line. Of the crates below: terms/specs/Formed
@@ -100,7 +100,7 @@ room-neutral = more-lent.room-neutral
 pub contents-neutral : (q : Posed) (l : Lending) (room : List ℕ) → length room ≡ length (l .room) → run-told q (in-room room l) ≡ run-told q l
 contents-neutral = more-lent.contents-neutral
 
--- some loan is enough: with it and with every larger one the search of the same question is done. It may lie above 01's run limits, so this is said of the search alone
+-- some loan is enough: with it and with every larger one the search of the same question is done. It may lie above the run limits, so this is said of the search alone
 pub enough-lent : (q : Posed) (l : Lending) (o : Outcome) → run-told q l ≡ gives o → (least : Loan) × ((more : Loan) → NoLess least more → end-number ((ran edition-one (asked q) more) .end) ≡ 0)
 enough-lent = more-lent.enough-lent
 
@@ -158,7 +158,7 @@ pub read-then-written : (text arities words : List ℕ) (unknowns functors equat
     → Writes (question-in (arities-after text arities words) (words-after text arities words) unknowns functors equations count) text buffer
 read-then-written = texts.read-then-written
 
--- 01's nesting: one more than the deepest term inside a bracket, tail included; and the writers find no bracket too deep exactly if no term nests above 200
+-- nesting, SPECIFICATION 1.4: one more than the deepest term inside a bracket, tail included; and the writers find no bracket too deep exactly if no term nests above 200
 pub set-nests : (m r : Term) → nesting (with m r) ≡ suc (largest (map nesting (members (with m r) ++ (kernel (with m r) ∷ []))))
 set-nests = nests.set-nests
 
@@ -204,7 +204,7 @@ list-refused = refusing.list-refused
 pub run-refused : (q : Posed) (l : Lending) (r : Refusal) → result (run-told q l) ≡ running.Refused r → (run-told q l ≡ refuses r) × (answers-after q l ≡ l .answers)
 run-refused = refusing.run-refused
 
--- ---- 9. document 01's numbers
+-- ---- 9. the numbers of ends and refusals, SPECIFICATION 6.2 and 7
 
 -- the ends that a run may have: 0 done, 20 steps, 21 depth, 22 size, 23 space, and never 24 names; each is told from its number
 pub end-numbers : (q : Posed) (l : Lending) (o : Outcome) → run-told q l ≡ gives o → One-of (0 ∷ 20 ∷ 21 ∷ 22 ∷ 23 ∷ []) (end-number (o .end))

@@ -1,4 +1,4 @@
--- How a term begins, and what follows an item of a list, in document 01's order of refusals at a symbol.
+-- How a term begins, and what follows an item of a list, in the order of refusals of SPECIFICATION 4.4.
 -- A member adding counts at its member's first byte, an empty set at its closing bracket.
 use Prim.Native.Nat.{ℕ, _+_, _-_, _≤_}
 use mathlib.Core.Path.{_≡_}

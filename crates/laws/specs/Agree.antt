@@ -159,7 +159,7 @@ each f (x ∷ xs) = both (f x) (each f xs)
 pub apart : {t u : Term} → t ≈ u → Alike _≈_ t u
 apart {t} {u} h = alike-map (each equal→≈ (members t)) (each equal→≈ (arguments (kernel t))) (equal→alike (≈→equal h))
 
--- document 01's second reading, of the least equality itself
+-- the second reading (SPECIFICATION 2.2), of the least equality itself
 pub equal-exactly-if-alike : (t u : Term) → (t ≈ u) ↔ Alike _≈_ t u
 equal-exactly-if-alike t u = (apart, together)
 
@@ -175,7 +175,7 @@ equal-turn t u = go (equal t u) refl (equal u t) refl
     go false e true f = absurd (false≢true (sym e ∙ equal-sym u t f))
     go false e false f = refl
 
--- document 01's sentence with both parts alike
+-- the sentence of SPECIFICATION 2.2 with both parts alike
 pub equal-either : (t u : Term) → equal t u ≡ (kernels-equal (kernel t) (kernel u) && each-in (members t) (members u) && each-in (members u) (members t))
 unfolding each-in is-in
 equal-either t u =

@@ -1,4 +1,4 @@
--- Document 01's second reading as a relation: `Alike R t u` where R is the equality of parts. The kernels are both empty sets, or the same
+-- The second reading of equality (SPECIFICATION 2.2) as a relation: `Alike R t u` where R is the equality of parts. The kernels are both empty sets, or the same
 -- functor with equal arguments, or the same unknown; each member of either equals some member of the other. Then its laws, for any R.
 use Prim.Native.Nat.{ℕ}
 use mathlib.Core.List.{List, [], _∷_}

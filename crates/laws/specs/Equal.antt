@@ -1,4 +1,4 @@
--- The test of two terms for equality, as document 01 puts it otherwise: strip the members from both terms; the kernels left must both be
+-- The test of two terms for equality, the second reading (SPECIFICATION 2.2): strip the members from both terms; the kernels left must both be
 -- empty sets, or the same functor with equal arguments; each member of either must equal some member of the other. An unknown is a
 -- constant: it equals itself. `equal-is` says this of `equal`; the definition itself recurses into the left term.
 use Prim.Native.Nat.{ℕ}
@@ -91,7 +91,7 @@ unfolding any
 any-map p [] = refl
 any-map p (x ∷ xs) = ap (λ b. p (equal x) || b) (any-map p xs)
 
--- document 01's sentence; `Agree` has it with the last part turned round, `each-in (members u) (members t)`
+-- the sentence of SPECIFICATION 2.2; `Agree` has it with the last part turned round, `each-in (members u) (members t)`
 pub equal-is : (t u : Term)
     → equal t u ≡ (kernels-equal (kernel t) (kernel u) && each-in (members t) (members u) && all (λ y. any (λ x. equal x y) (members t)) (members u))
 unfolding equal pass each-in is-in

@@ -1,5 +1,5 @@
--- The least equality that keeps the laws {x,x|z} = {x|z} and {x,y|z} = {y,x|z} inside every term. Document 01, "Terms and when they are
--- equal". A kernel may be any functor term (coloured sets), and an unknown stands for itself. Its agreement with the test is in `Agree`.
+-- The least equality that keeps the laws {x,x|z} = {x|z} and {x,y|z} = {y,x|z} inside every term: SPECIFICATION
+-- 2.1. A kernel may be any functor term (coloured sets), and an unknown stands for itself. Its agreement with the test is in `Agree`.
 use Prim.Native.Nat.{ℕ}
 use mathlib.Core.List.{List}
 use Rattle.terms.specs.Lists.{All, Any}

@@ -72,7 +72,7 @@ fn check_list(arities: &[u8], visited: u64, answers: usize, words: &[u16]) -> Ch
     check_answers(arities, answers, words)
 }
 
-// Document 01's writer of an answer list, with the end by its number: tests 3, 8, 6, then 7 before a byte is written. The buffer then holds
+// The writer of an answer list, SPECIFICATION 8.3, with the end by its number: tests 3, 8, 6, then 7 before a byte is written. The buffer then holds
 // the text from its start and is unchanged after it; on refusal it is untouched.
 pub fn write_answers(
     arities: &[u8],

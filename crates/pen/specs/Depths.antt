@@ -1,5 +1,5 @@
 -- How deep the bracket stands that each word of a term opens: refusal 6 is told at the first word whose bracket stands too deep.
--- Document 01, "How a run ends": in words, at the word which that bracket would write.
+-- SPECIFICATION 4.6: in words, at the word which that bracket would write.
 use Prim.Native.Nat.{ℕ, suc, _+_}
 use mathlib.Core.Bool.{Bool, true, false}
 use mathlib.Core.List.{List, [], _∷_, _++_}

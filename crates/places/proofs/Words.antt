@@ -1,4 +1,4 @@
--- Document 01's numbers, as the code has them, in the definitions of words.
+-- The numbers of SPECIFICATION 3.1 and 3.2, as the code has them, in the definitions of words.
 use Prim.Native.Nat.{ℕ, _+_, _-_, _<_, _≤_}
 use mathlib.Core.Path.{_≡_, refl}
 use mathlib.Core.List.{List}

@@ -1,4 +1,4 @@
--- What the program `solve` prints, by what it reads. Document 01, "Specimens": it reads a question and runs it with steps 100,000, depth 96, size 256 and 4,096
+-- What the program `solve` prints, by what it reads. SPECIFICATION 10.1: it reads a question and runs it with steps 100,000, depth 96, size 256 and 4,096
 -- answer words; it prints the list's text, and on refusal `refused=` and `place=` only.
 use Prim.Native.Nat.{ℕ, _+_, _*_, _≤_}
 use mathlib.Core.Path.{_≡_}

@@ -1,5 +1,5 @@
--- What may be relied on, in the order of the mission. Each line states a theorem over the definitions of `search`, for any bounds, in the words of
--- `Wording` and of `answers`' `Fits`. Nothing is assumed, and `Examples`, here and in `answers`, apply each to a specimen of document 01.
+-- What may be relied on, in the order of docs/PROMISES.md. Each line states a theorem over the definitions of `search`, for any bounds, in the words of
+-- `Wording` and of `answers`' `Fits`. Nothing is assumed, and `Examples`, here and in `answers`, apply each to a specimen (SPECIFICATION 11).
 use Prim.Native.Nat.{ℕ, _+_, _≤_}
 use mathlib.Core.Path.{_≡_}
 use mathlib.Core.List.{List}

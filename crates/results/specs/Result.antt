@@ -42,8 +42,8 @@ unfoldable pub words-told : Told → List ℕ
 words-told (refuses r) = []
 words-told (gives o) = listed (o .answers)
 
--- what a call gives back where t is told, and what the answers' buffer and the room hold before and after it. Of the room nothing more is said: document 01 lists
--- its later contents as an exception
+-- what a call gives back where t is told, and what the answers' buffer and the room hold before and after it. Of the room nothing more is said: its later
+-- contents are open (SPECIFICATION 8.6)
 pub record RunGives (t : Told) (back : Ran) (answers answers-after room room-after : List ℕ) : Type 0 where
   pub told-back : back ≡ result t
   pub begins : answers-after ≡ put answers 0 (words-told t)

@@ -2,10 +2,10 @@
 use Prim.Native.Nat.{ℕ}
 use mathlib.Core.Path.{_≡_, sym, _∙_}
 use mathlib.Core.List.{List}
-use mathlib.Core.Bool.{Bool, true, false}
+use mathlib.Core.Bool.{Bool, true, false, not}
 use lib.Dec.{eqb}
 use lib.ListN.{getD}
-use borrow.Author.Tests.{eq-eqb, ne-eqb}
+use borrow.Author.Tests.{eq-eqb, ne-eqb, not-true}
 use Rattle.terms.specs.Bounds.{edition-one}
 use Rattle.terms.specs.Kind.{within}
 use Rattle.walks.specs.declared.occurrence.Occurrence.the-variants.{Absent, Tail, Inside}
@@ -14,6 +14,7 @@ use Rattle.search.specs.declared.steps.Tails.{Tails}
 use Rattle.search.specs.declared.steps.Tails.the-variants.{Different}
 use Rattle.search.specs.declared.steps.Step.the-variants.{Drop, Bind, Postpone, Decompose, Split, Dead}
 use Rattle.search.specs.Classify.{tails-by}
+use Rattle.rows.specs.Flat.{holds, absent-in-rest}
 use Rattle.rows.specs.Stepping.{unknown-word, tails-of, kernel-word, meet-where, meet-words, compare-words, step-by, step-of}
 
 pub tails-told : (l r : ℕ) {a c d : Bool} → within 1000 1000 l ≡ a → within 1000 1000 r ≡ c → eqb l r ≡ d → tails-by a c d ≡ tails-of edition-one l r
@@ -24,6 +25,9 @@ module _ (arities : List ℕ) (x : ℕ) (ws : List ℕ) (k : Tails) where
   pub met-nowhere : in-rest edition-one arities x ws 0 ≡ Absent → Bind k ≡ meet-words edition-one arities x ws k
   unfolding meet-words meet-where
   met-nowhere e = rw e
+
+  pub met-absent : (found : Bool) → found ≡ holds x ws → not found ≡ true → Bind k ≡ meet-words edition-one arities x ws k
+  met-absent found e h = met-nowhere (absent-in-rest edition-one arities x ws 0 (sym e ∙ not-true found h))
 
   pub met-as-tail : in-rest edition-one arities x ws 0 ≡ Tail → Postpone k ≡ meet-words edition-one arities x ws k
   unfolding meet-words meet-where

@@ -1,16 +1,19 @@
 -- What is asked of terms, asked of their words: an unknown's word occurs where the unknown does, and to put a term for an unknown is to
 -- replace the unknown's word by the term's words.
-use Prim.Native.Nat.{ℕ, _+_, _<_}
+use Prim.Native.Nat.{ℕ, zero, suc, _+_, _<_}
 use mathlib.Core.Path.{_≡_, refl, ap, _∙_}
 use mathlib.Core.List.{List, [], _∷_, _++_, append-nil}
 use mathlib.Core.Bool.{Bool, true, false, _||_}
 use native.Mathlib.Omega.{arith}
-use lib.Dec.{eqb}
+use lib.Dec.{eqb, ltb}
 use borrow.Author.Tests.{eqb-true, eqb-false, ne-eqb, eq-eqb}
 use Rattle.room.specs.Replaced.{replaced, count, replaced-none, replaced-append, replaced-cons, replaced-nil, image-same, image-other, by-test}
 use Rattle.terms.specs.Bounds.{Bounds, Proper}
+use Rattle.terms.specs.Kind.{takes}
 use Rattle.terms.specs.Lists.{any, or-neither}
 use Rattle.terms.specs.Term.{Term, Terms, unknown, empty, with, functor, none, more, words, words*, subst, subst*, occurs, occurs*}
+use Rattle.walks.specs.declared.occurrence.Occurrence.the-variants.{Absent}
+use Rattle.walks.specs.Occurrence.{in-terms, in-rest}
 
 -- is x one of the words?
 unfoldable pub holds : ℕ → List ℕ → Bool
@@ -29,6 +32,26 @@ count-absent x (w ∷ ws) h = let n = or-neither (eqb w x) (holds x ws) h in rw 
 
 pub replaced-absent : (x : ℕ) (vs ws : List ℕ) → holds x ws ≡ false → replaced x vs ws ≡ ws
 replaced-absent x vs ws h = replaced-none x vs ws (count-absent x ws h)
+
+-- and no walk finds it
+absent-in-terms : (b : Bounds) (arities : List ℕ) (x : ℕ) (ws : List ℕ) (due : ℕ) → holds x ws ≡ false → in-terms b arities x ws due ≡ Absent
+unfolding holds any in-terms
+absent-in-terms b arities x [] due h = refl
+absent-in-terms b arities x (w ∷ ws) zero h = refl
+absent-in-terms b arities x (w ∷ ws) (suc due) h =
+    let n = or-neither (eqb w x) (holds x ws) h in
+    rw (n .0) (absent-in-terms b arities x ws (due + takes b arities w) (n .1))
+
+pub absent-in-rest : (b : Bounds) (arities : List ℕ) (x : ℕ) (ws : List ℕ) (due : ℕ) → holds x ws ≡ false → in-rest b arities x ws due ≡ Absent
+unfolding holds any in-rest
+absent-in-rest b arities x [] due h = refl
+absent-in-rest b arities x (w ∷ ws) zero h =
+    let n = or-neither (eqb w x) (holds x ws) h in
+    rw (n .0, absent-in-rest b arities x ws 1 (n .1), absent-in-terms b arities x ws (takes b arities w) (n .1))
+    (by-test (eqb w 1) (λ t. rw t) (λ f. rw f (by-test (ltb w (b .first-functor)) (λ t. rw t) (λ g. rw g))))
+absent-in-rest b arities x (w ∷ ws) (suc due) h =
+    let n = or-neither (eqb w x) (holds x ws) h in
+    rw (n .0) (absent-in-rest b arities x ws (due + takes b arities w) (n .1))
 
 or-false : (c : Bool) → (c || false) ≡ c
 or-false true = refl

@@ -4,6 +4,7 @@ ghost use Prim.Native.Nat.{_<_, _^_};
 ghost use lib.ListN.{length, getD};
 ghost use Rattle.terms.specs.Bounds.{edition-one};
 ghost use Rattle.rows.specs.Stepping.{tails-of, kernel-word, meet-words, compare-words, step-of};
+use crate::walk::is_in;
 use crate::walk::is_unknown;
 use crate::walk::place_of_kernel;
 use search::steps::Step;
@@ -48,11 +49,14 @@ pub fn tails_by_words(left: u16, right: u16) -> Tails
     Tails::Neither
 }
 
-// x = t, where t is no unknown.
+// x = t, where t is no unknown. Where x is none of the words, which is so most often, they need no walk.
 fn meet(arities: &[u8], x: u16, t: &[u16], tails: Tails) -> Step
     requires { ⌜ length (now t) < 2 ^ 32 ⌝ }
     ensures { λ r. ⌜ r ≡ meet-words edition-one (now (arities .entry)) x (now (t .entry)) tails ⌝ }
 {
+    if !is_in(t, x) {
+        return Step::Bind(tails);
+    }
     match find_unknown(arities, t, 0, x) {
         Occurrence::Absent => Step::Bind(tails),
         Occurrence::Tail => Step::Postpone(tails),

@@ -1,5 +1,5 @@
 -- The children of a state, in order: one for a step that leaves no choice, one for each choice of picks of a split, and one for a joined pile.
--- Document 01, "The search, step by step".
+-- SPECIFICATION 5.3 to 5.6.
 use Prim.Native.Nat.{ℕ}
 use mathlib.Core.List.{List, [], _∷_, _++_, map, flatMap}
 use mathlib.Core.Bool.{Bool, true, false, cond}

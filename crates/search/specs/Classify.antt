@@ -1,4 +1,4 @@
--- Which step an equation calls for, and the tails of its two sides. Document 01, "If equations are pending, take the first".
+-- Which step an equation calls for, and the tails of its two sides. SPECIFICATION 5.2.
 use Prim.Native.Nat.{ℕ}
 use mathlib.Core.Bool.{Bool, true, false, _&&_, not, cond}
 use lib.Dec.{eqb}

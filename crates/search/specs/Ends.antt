@@ -1,4 +1,4 @@
--- Document 01's number and word for every end.
+-- The number and word for every end: SPECIFICATION 6.2.
 use Prim.Native.Nat.{ℕ}
 use mathlib.Core.Bool.{cond}
 use mathlib.Core.List.{List, [], _∷_}

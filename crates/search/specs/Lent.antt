@@ -1,4 +1,4 @@
--- The run limits, and which lent numbers are within them. Document 01, "Words and text": run limits.
+-- The run limits, and which lent numbers are within them: SPECIFICATION 6.1.
 use Prim.Native.Nat.{ℕ}
 use mathlib.Core.Bool.{cond}
 use lib.Dec.{ltb}

@@ -1,4 +1,4 @@
--- The visits of a search in their order, and the run over them within what is lent. Document 01, "How a run ends". Every limit lives in `scan`
+-- The visits of a search in their order, and the run over them within what is lent: SPECIFICATION 5.8 and 6.2. Every limit lives in `scan`
 -- and nowhere else.
 use Prim.Native.Nat.{ℕ, _+_, _-_, suc, zero}
 use mathlib.Core.List.{List, [], _∷_, _++_, flatMap}

@@ -1,4 +1,4 @@
--- Document 01's specimens and the limit cases of x0 = {a|x0}, in its order, and some of our own: one table, under one claim that is computed.
+-- The specimens of SPECIFICATION 11 and the limit cases of x0 = {a|x0}, and some of our own: one table, under one claim that is computed.
 use Prim.Native.Nat.{ℕ}
 use mathlib.Core.Path.{_≡_, refl}
 use mathlib.Core.List.{List, [], _∷_, flatMap}
@@ -18,7 +18,7 @@ use Rattle.search.specs.Classify.{tails-by, tails, only-tail, meet-by, m
 use Rattle.search.specs.Children.{replace-in, entries, others, released, kept, bound-state, bound, then-bound, tail-pick, picks-of-t, picks-of-u, new-equations, joining, pile-up, settle, split, subject, object, pairwise, take, joined, join, children-by, children}
 use Rattle.search.specs.Run.{Loan, Outcome, Visit, states, Verdict, stops, overflows, goes-on, answer-by, visit, dead-visit, visits, root, found, found-size, ends, verdict, spend, after, scan, ran}
 
--- ---- 01's letters: a is f0, b is f1, c is f2, and g is f3 with one argument
+-- ---- the specimens' letters: a is f0, b is f1, c is f2, and g is f3 with one argument
 
 abbrev pub a : Term
 a = functor 0 none

@@ -1,5 +1,5 @@
--- A state of the search, a node of its tree, and a state's size. Document 01: "A state holds pending equations in order, a pile of postponed
--- equations, and bindings in the order made."
+-- A state of the search, a node of its tree, and a state's size: SPECIFICATION 5.1. A state holds pending equations in order, a pile of postponed
+-- equations, and bindings in the order made.
 use Prim.Native.Nat.{ℕ, _+_, suc}
 use mathlib.Core.List.{List, [], _∷_, _++_}
 use Rattle.terms.specs.Term.{Term, size}

@@ -1,4 +1,4 @@
-// How a run ends. specs/Ends.antt states document 01's number and word for every case.
+// How a run ends. specs/Ends.antt states the number and word of SPECIFICATION 6.2 for every case.
 ghost use mathlib.Core.Path.{_≡_};
 ghost use Rattle.search.specs.Ends.{end-number, end-of};
 

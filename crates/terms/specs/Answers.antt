@@ -1,4 +1,4 @@
--- An unknown and a term beside it: a binding, or an entry of the pile. The words of an answer. Document 01, "How a run ends": an answer is its
+-- An unknown and a term beside it: a binding, or an entry of the pile. The words of an answer, SPECIFICATION 3.4: an answer is its
 -- number of bindings, then for each the unknown's number and its value.
 use Prim.Native.Nat.{ℕ}
 use mathlib.Core.List.{List, [], _∷_, _++_}

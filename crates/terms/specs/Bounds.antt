@@ -1,5 +1,5 @@
 -- The numbers that bound words, questions and paths: one record of parameters. Every definition that speaks of one of them takes the record,
--- and `edition-one` has document 01's numbers as its value.
+-- and `edition-one` has the numbers of edition 1 as its value: SPECIFICATION 3.1, 3.2, 3.4 and 4.6.
 use Prim.Native.Nat.{ℕ, _+_, _≤_}
 use native.Mathlib.Omega.{arith}
 

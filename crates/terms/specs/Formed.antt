@@ -1,5 +1,5 @@
 -- Formed terms: each unknown is one of the first n, each functor is of the table and has as many arguments as its arity.
--- A term is ground where n is 0. Questions, and when a question is good. Document 01, "Words and text".
+-- A term is ground where n is 0. Questions, and when a question is good: SPECIFICATION 1.1 and 3.2.
 use Prim.Native.Nat.{ℕ, _+_, _<_, _≤_}
 use mathlib.Core.Path.{_≡_}
 use mathlib.Core.List.{List, [], _∷_, _++_}

@@ -1,4 +1,4 @@
--- What a word stands for, and how many terms follow it. Document 01, "Words and text"; its numbers are those of `Bounds`.
+-- What a word stands for, and how many terms follow it: SPECIFICATION 3.1; its numbers are those of `Bounds`.
 -- Then the laws: the word of each symbol has its kind, and a kind tells its word.
 use Prim.Native.Nat.{ℕ, _+_, _-_, _<_, _≤_}
 use mathlib.Core.Path.{_≡_, refl}

@@ -1,4 +1,4 @@
--- The number of each refusal, as document 01's table has it.
+-- The number of each refusal, as the table of SPECIFICATION 7 has it.
 use Prim.Native.Nat.{ℕ}
 use Rattle.terms.specs.declared.refusal.Cause.{Cause}
 use Rattle.terms.specs.declared.refusal.Cause.the-variants.{Byte, Number, Limit, Undeclared, Arguments, Nesting, Buffer, WordsStop, WordsMeaningless, WordsUndeclared, WordsLeft}

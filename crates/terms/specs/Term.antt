@@ -1,5 +1,5 @@
 -- What a term is, its words, and what is asked of it: size, occurrence, substitution, members and kernel, nesting.
--- Document 01, "Terms and when they are equal" and "Words and text". Laws are in `Flat`, `Formed` and `Reading`.
+-- SPECIFICATION 1 and 3.1. Laws are in `Flat`, `Formed` and `Reading`.
 use Prim.Native.Nat.{ℕ, _+_, suc, max}
 use mathlib.Core.List.{List, [], _∷_, _++_}
 use mathlib.Core.Bool.{Bool, false, _||_, cond}

@@ -1,6 +1,6 @@
 // What a term is, and how it is written in words.
 //
-// The definitions are in specs/. To believe: `Bounds` (document 01's numbers), `Term` (terms, their words, substitution, members and kernel),
+// The definitions are in specs/. To believe: `Bounds` (the numbers of SPECIFICATION 3.1 and 3.2), `Term` (terms, their words, substitution, members and kernel),
 // `Formed` (formed terms, questions, when a question is good), `Kind` (what a word stands for), `Answers` and `Listing` (answers and their words),
 // `Reading` (words read back), `Refusal` (the number of each refusal). The laws: `Flat` (as many words as symbols; substitution is flat), `Reading` (unique
 // reading), `Walk` (where terms end), `Members`, `Substitution`.

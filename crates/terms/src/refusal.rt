@@ -2,7 +2,7 @@
 ghost use mathlib.Core.Path.{_≡_};
 ghost use Rattle.terms.specs.Refusal.{number};
 
-// Document 01's table of refusals. Its number 8 has four causes, which are told apart here; `number` gives the table's numbers.
+// The table of refusals, SPECIFICATION 7. Its number 8 has four causes, which are told apart here; `number` gives the table's numbers.
 pub enum Cause {
     // a byte that the text form hasn't here, or the text stops
     Byte,

@@ -1,4 +1,4 @@
--- The text of an answer list, as bytes: the lines that the program prints. Document 01, "Specimens".
+-- The text of an answer list, as bytes: the lines that the program prints. SPECIFICATION 4.3.
 use Prim.Native.Nat.{ℕ}
 use mathlib.Core.List.{List, [], _∷_, _++_}
 use lib.ListN.{length}

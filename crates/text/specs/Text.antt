@@ -1,4 +1,4 @@
--- The text of numbers, terms and questions, as bytes. Document 01, "Words and text".
+-- The text of numbers, terms and questions, as bytes: SPECIFICATION 4.2 and 4.5.
 -- The text of a term has the four cases of its nesting: a term, what follows a member, a functor's arguments, what follows an argument.
 use Prim.Native.Nat.{ℕ, zero, suc, _+_, _/_, _%_}
 use mathlib.Core.Bool.{Bool, true, false}

@@ -1,4 +1,4 @@
-// From a question's text to the text of its answers: what document 01 says of the program `solve`, over slices. The program itself only moves bytes.
+// From a question's text to the text of its answers: what SPECIFICATION 10.1 says of the program `solve`, over slices. The program itself only moves bytes.
 //
 // `Solved` of printing's specs/ says what is printed for any input; its `Enough` shows that the sizes here hold what every good question needs.
 ghost use mathlib.Core.Path.{_≡_};

@@ -1,4 +1,4 @@
--- What a writer answers, and what its buffer holds after it. Document 01: the writer tests 3, 8, 6, then 7; a refusal leaves the buffer untouched.
+-- What a writer answers, and what its buffer holds after it. SPECIFICATION 8.2 and 8.3: the writer tests 3, 8, 6, then 7; a refusal leaves the buffer untouched.
 use Prim.Native.Nat.{ℕ}
 use mathlib.Core.Bool.{cond}
 use mathlib.Core.List.{List, [], _++_}

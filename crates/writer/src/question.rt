@@ -23,7 +23,7 @@ fn measure(unknowns: usize, arities: &[u8], equations: usize, words: &[u16], roo
     )
 }
 
-// Document 01's writer of a question: tests 3, 8, 6, then 7 before a byte is written. The buffer then holds the text from its start and is
+// The writer of a question, SPECIFICATION 8.2: tests 3, 8, 6, then 7 before a byte is written. The buffer then holds the text from its start and is
 // unchanged after it; on refusal it is untouched.
 pub fn write_question(
     unknowns: usize,

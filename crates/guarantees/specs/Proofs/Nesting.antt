@@ -1,5 +1,5 @@
--- The writer's bracket depths and document 01's nesting agree: no bracket of a term stands deeper than a limit exactly if the term nests within it. So refusal 6
--- is told exactly of what nests too deep. And `nesting` is 01's sentence.
+-- The writer's bracket depths and the nesting of SPECIFICATION 1.4 agree: no bracket of a term stands deeper than a limit exactly if the term nests within it. So refusal 6
+-- is told exactly of what nests too deep. And `nesting` is the sentence of SPECIFICATION 1.4.
 use Prim.Native.Nat.{ℕ, suc, _+_, _≤_, max}
 use mathlib.Core.Path.{_≡_, refl, ap}
 use mathlib.Core.List.{List, [], _∷_, _++_, map}
@@ -151,7 +151,7 @@ pub answers-nest : (l : List (List Named)) → (too-deep-in-list edition-one l �
 unfolding too-deep-in-list edition-one
 answers-nest l = (λ e. list-nests 200 l (within-low 200 0 _ e), λ h. low-within 200 0 (list-low 200 h))
 
--- ---- document 01's sentence
+-- ---- the sentence of SPECIFICATION 1.4
 
 inside-is : (t : Term) → inside t ≡ largest (map nesting (members t ++ (kernel t ∷ [])))
 unfolding nesting members kernel largest

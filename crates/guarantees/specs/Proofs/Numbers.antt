@@ -1,4 +1,4 @@
--- Which of document 01's numbers an entry may refuse with, and a run may end with.
+-- Which numbers of SPECIFICATION 6.2 and 7 an entry may refuse with, and a run may end with.
 use Prim.Native.Nat.{ℕ, suc, zero, _+_}
 use mathlib.Core.Path.{_≡_, refl}
 use mathlib.Core.Bool.{Bool, true, false, cond, false≢true}
