@@ -12,7 +12,6 @@ pub mod root;
 use lent_words::check_question;
 use record::Noted;
 use record::note;
-use record::with_nodes;
 use results::ran::Ending;
 use results::ran::Ran;
 use results::ran::Record;
@@ -31,14 +30,11 @@ fn enter_root(arities: &[u8], limits: Limits, answers: &mut [u16], room: &mut [u
     requires { ⌜ ((to : Given) × Rooted (now arities) limits (now room) (now answers) to) ⌝ }
     ensures { λ r. ⌜ ((to : Given) → Rooted (now (arities .entry)) limits (now (room .entry)) (now (answers .entry)) to → Ends to r (now (answers .exit))) ⌝ }
 {
-    let one = with_nodes(
-        Record {
-            visited: 0,
-            answers: 0,
-            words: 0,
-        },
-        1,
-    );
+    let one = Record {
+        visited: 1,
+        answers: 0,
+        words: 0,
+    };
     let end = limits.size + HEADER;
     match note(&room[..end], answers, one) {
         Noted::Held(noted) => search_on(arities, limits, answers, room, noted),
