@@ -20,9 +20,9 @@ use Rattle.terms.specs.Flat.{size-positive, length-words}
 use Rattle.search.specs.State.{State, pend, size-equations, size-named, state-size}
 use Rattle.search.specs.Classify.{classify}
 use Rattle.search.specs.StepView.{Sided, as-written, turned-round}
+use Rattle.search.specs.StateWords.{pending-words}
 use Rattle.rows.specs.declared.parts.Rest.{Rest}
 use Rattle.rows.specs.Bind.{BindParts, FinishParts}
-use Rattle.rows.specs.States.{pending-words}
 use Rattle.rows.specs.Row.{Holds, Rested, header-for}
 use Rattle.rows.specs.declared.first.Subject.{Subject}
 use Rattle.binding.specs.Child.{Stands}

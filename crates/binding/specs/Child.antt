@@ -12,18 +12,19 @@ use Rattle.terms.specs.Kind.{Worded}
 use Rattle.terms.specs.Lists.{All}
 use Rattle.terms.specs.Term.{Term, words}
 use Rattle.terms.specs.Formed.{Equation, Formed, row, sides}
-use Rattle.terms.specs.Answers.{Named, binding-words}
+use Rattle.terms.specs.Answers.{Named, binding-words, pile-words}
 use Rattle.search.specs.State.{State, live, size-equations, size-named, state-size}
 use Rattle.search.specs.Children.{replace-in, entries, others, released, kept, bound-state}
+use Rattle.search.specs.StateWords.{pending-words, state-words, length-pending, length-pile, length-bindings}
 use Rattle.rows.specs.declared.parts.Rest.{Rest}
 use Rattle.rows.specs.declared.parts.Made.{Made}
 use Rattle.rows.specs.declared.parts.Part.the-variants.{Entries, Others}
 use Rattle.rows.specs.Header.{header-of}
-use Rattle.rows.specs.Pile.{pile-words, pile-append, chosen, selection-pile}
+use Rattle.rows.specs.Pile.{pile-append, chosen, selection-pile}
 use Rattle.rows.specs.Bind.{FinishParts, pending-piece, pile-piece, last-piece, bound-piece}
 use Rattle.binding.specs.Keep.{kept-piece, kept-header}
 use Rattle.rows.specs.Finished.{Finished, bound-header}
-use Rattle.rows.specs.States.{pending-words, body-words, length-pending, length-pile, length-bindings, pending-append, bindings-append, replaced-pending, replaced-entries, replaced-others}
+use Rattle.rows.specs.States.{pending-append, bindings-append, replaced-pending, replaced-entries, replaced-others}
 use Rattle.rows.specs.Row.{Rested, Makes, header-for, finished-makes}
 
 -- the state with these equations before its own, and this next unknown
@@ -79,8 +80,8 @@ module _ {arities : List ℕ} {k : ℕ} (worded : Worded edition-one arities k) 
     unfolding bound-state ahead binding-words
     bindings-is = last-piece-is ∙ sym (bindings-append edition-one (st .bindings) (record { name = x; value = t } ∷ []) ∙ rw append-nil)
 
-    body-is : put-for (pending-words edition-one ds) ++ bound-piece edition-one arities r₀ rest (1000 + x) by m ≡ body-words edition-one child
-    unfolding bound-piece body-words
+    body-is : put-for (pending-words edition-one ds) ++ bound-piece edition-one arities r₀ rest (1000 + x) by m ≡ state-words edition-one child
+    unfolding bound-piece state-words
     body-is =
         sym (append-assoc (put-for (pending-words edition-one ds)) (pending-piece edition-one arities r₀ rest (1000 + x) by m) (pile-piece edition-one arities r₀ rest (1000 + x) by m ++ last-piece r₀ rest (1000 + x) by m))
         ∙ rw (pending-is, pile-is, bindings-is)
@@ -138,8 +139,8 @@ module _ {arities : List ℕ} {k : ℕ} (worded : Worded edition-one arities k) 
     unfolding binding-words
     heir-bindings = last-piece-is ∙ sym (bindings-append edition-one (st .bindings) (record { name = x; value = t } ∷ []) ∙ rw append-nil)
 
-    heir-body : pile-piece edition-one arities r₀ rest (1000 + x) by m ++ last-piece r₀ rest (1000 + x) by m ≡ body-words edition-one heir
-    unfolding body-words pending-words row sides
+    heir-body : pile-piece edition-one arities r₀ rest (1000 + x) by m ++ last-piece r₀ rest (1000 + x) by m ≡ state-words edition-one heir
+    unfolding state-words pending-words row sides
     heir-body = rw (heir-pile, heir-bindings)
 
     heir-header : header-of (bound-header rest 0 (length (pile-piece edition-one arities r₀ rest (1000 + x) by m)) m next) ≡ header-of (header-for heir)
@@ -192,8 +193,8 @@ module _ {r₀ : List ℕ} {rest : Rest} {st : State} (R : Rested edition-one r�
       let place : rest .at + (rest .pending + rest .pile) ≡ rest .at + rest .pending + rest .pile = omega arith in
       rw (seg-append r₀ (rest .at) (rest .pending) (rest .pile), place, entry .piled, R .pending, R .pile, R .bound)
 
-  kept-body-is : pending-words edition-one ds ++ kept-piece r₀ rest by m ≡ body-words edition-one next-state
-  unfolding body-words extended
+  kept-body-is : pending-words edition-one ds ++ kept-piece r₀ rest by m ≡ state-words edition-one next-state
+  unfolding state-words extended
   kept-body-is = rw (kept-is, pending-append edition-one ds (st .pending), pile-append edition-one (st .pile) ms) (simp append-assoc)
 
   kept-header-is : header-of (kept-header rest written m next) ≡ header-of (header-for next-state)

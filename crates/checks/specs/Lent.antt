@@ -2,7 +2,7 @@
 -- from them, which keeps the limits of SPECIFICATION 3.2; and the words of anything within the limits are fine and read back to it.
 use Prim.Native.Nat.{ℕ, zero, suc, _*_, _≤_}
 use mathlib.Core.Path.{_≡_, refl, ap, sym, _∙_}
-use mathlib.Core.List.{List, [], _∷_, _++_, append-nil, append-assoc, head-eq-of-cons-eq, tail-eq-of-cons-eq}
+use mathlib.Core.List.{List, [], _∷_, _++_, append-nil, head-eq-of-cons-eq, tail-eq-of-cons-eq}
 use mathlib.Core.Bool.{Bool, true, false, _||_}
 use native.Mathlib.Omega.{arith}
 use lib.Dec.{ltb}
@@ -13,11 +13,11 @@ use Rattle.terms.specs.Bounds.{Bounds, Proper}
 use Rattle.checks.specs.Check.{checked, above, arities-above, counts-above, check-terms, check-question, check-row, check-answers}
 use Rattle.checks.specs.Checked.{held, never-fine, fine-terms, fine-list}
 use Rattle.terms.specs.Kind.{Worded}
-use Rattle.terms.specs.Listing.{Bound, parts, list-words, answers-of}
+use Rattle.terms.specs.Listing.{Bound, parts, list-words, answers-of, bindings-determine}
 use Rattle.terms.specs.Lists.{All, none, both, any, or-neither}
-use Rattle.terms.specs.Term.{Term, words}
+use Rattle.terms.specs.Term.{Term}
 use Rattle.terms.specs.Formed.{Formed, Equation, sides, Question, row, Good}
-use Rattle.terms.specs.Reading.{read, paired, question-of, row-read, words-determine}
+use Rattle.terms.specs.Reading.{read, paired, question-of, row-read}
 use Rattle.terms.specs.declared.refusal.Checked.{Checked}
 use Rattle.terms.specs.declared.refusal.Checked.the-variants.{Fine}
 
@@ -110,7 +110,7 @@ unfolding sides paired
 paired-sides [] = refl
 paired-sides (e ∷ es) = ap (λ ds. e ∷ ds) (paired-sides es)
 
-length-sides : (es : List Equation) → length (sides es) ≡ 2 * length es
+pub length-sides : (es : List Equation) → length (sides es) ≡ 2 * length es
 unfolding sides
 length-sides [] = refl
 length-sides (e ∷ es) = omega (arith, length-sides es)
@@ -190,23 +190,7 @@ pub record Answered (b : Bounds) (arities : List ℕ) (answers : ℕ) (ws : List
   pub formed : All (All (Bound arities (b .path-unknowns))) l
   pub worded : list-words b l ≡ ws
 
-same-named : {x y : Named} → x .name ≡ y .name → x .value ≡ y .value → x ≡ y
-same-named p q = λ i. record { name = p i; value = q i }
-
 module _ {b : Bounds} {arities : List ℕ} {n : ℕ} (worded : Worded b arities n) where
-  bindings-determine : {xs ys : List Named} {vs ws : List ℕ} → All (Bound arities n) xs → All (Bound arities n) ys → length xs ≡ length ys
-      → binding-words b xs ++ vs ≡ binding-words b ys ++ ws → (xs ≡ ys) × (vs ≡ ws)
-  unfolding binding-words
-  bindings-determine none none h e = (refl, e)
-  bindings-determine none (both g gs) h e = absurd (omega arith)
-  bindings-determine (both f fs) none h e = absurd (omega arith)
-  bindings-determine {vs} {ws} (both {x = x} {xs = xs} f fs) (both {x = y} {xs = ys} g gs) h e =
-      let d = words-determine worded (f .value) (g .value)
-      (sym (append-assoc (words b (x .value)) (binding-words b xs) vs) ∙ tail-eq-of-cons-eq e ∙ append-assoc (words b (y .value)) (binding-words b ys) ws) in
-      let r = bindings-determine fs gs (omega arith) (d .1) in
-      let s : x ≡ y = same-named (head-eq-of-cons-eq e) (d .0) in
-      (cc, r .1)
-
   pub list-determines : {l m : List (List Named)} → All (All (Bound arities n)) l → All (All (Bound arities n)) m → length l ≡ length m
       → list-words b l ≡ list-words b m → l ≡ m
   unfolding list-words listed answer-words
@@ -214,7 +198,7 @@ module _ {b : Bounds} {arities : List ℕ} {n : ℕ} (worded : Worded b arities 
   list-determines none (both g gs) h e = absurd (omega arith)
   list-determines (both f fs) none h e = absurd (omega arith)
   list-determines (both {x = x} {xs = l} f fs) (both {x = y} {xs = m} g gs) h e =
-      let d = bindings-determine f g (head-eq-of-cons-eq e) (tail-eq-of-cons-eq e) in
+      let d = bindings-determine worded f g (head-eq-of-cons-eq e) (tail-eq-of-cons-eq e) in
       let r = list-determines fs gs (omega arith) (d .1) in
       let s = d .0 in
       cc

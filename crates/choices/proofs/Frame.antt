@@ -9,9 +9,9 @@ use lib.ListN.{length, getD}
 use borrow.Author.Tests.{ltb-true}
 use Rattle.room.specs.Room.{seg, put, length-put}
 use Rattle.room.specs.Parts.{Apart, apart-part, getD-put, seg-put}
-use Rattle.room.specs.Replaced.{by-test}
 use Rattle.choices.specs.Gathered.{gathered, meets-piece, meeting-piece, Noted, MeetParts}
 use Rattle.choices.proofs.Meeting.{own-parts, other-parts, same-member}
+use Rattle.terms.specs.Lists.{cases}
 
 -- the same parts, one after the other
 pub gathered-same : (f g : ℕ → List ℕ) (k i : ℕ) → ((j : ℕ) → i ≤ j → j < i + k → f j ≡ g j) → gathered f k i ≡ gathered g k i
@@ -66,7 +66,7 @@ module _ {l : List ℕ} {body owns n others count picks by m to capacity : ℕ} 
       let same : getD r (picks + j) 0 ≡ d = rw e (getD-put out l (apart-part (P .picks-apart) (omega arith) (omega arith) h k)) in
       let own = same-member (own-parts P j b) r out i e h k in
       rw same
-      (by-test (ltb d count)
+      (cases (ltb d count)
       (λ t. let other = same-member (other-parts P d (ltb-true d count t)) r out i e h k in rw (t, own, other))
       (λ f. rw f))
 

@@ -12,7 +12,7 @@ use Rattle.room.specs.Room.{Within}
 use Rattle.room.specs.Parts.{Apart}
 use Rattle.terms.specs.Bounds.{Bounds}
 use Rattle.terms.specs.Kind.{takes, Worded}
-use Rattle.terms.specs.Lists.{All, none, both}
+use Rattle.terms.specs.Lists.{All-units}
 use Rattle.terms.specs.Term.{Term, unknown, empty, with, functor, words, words*, size}
 use Rattle.terms.specs.Formed.{Formed, formed-unknown, formed-empty, formed-with, formed-functor}
 use Rattle.terms.specs.Walk.{past}
@@ -60,10 +60,6 @@ places (with m r) p = p ∷ places r (p + 1 + size m)
 places (functor k ts) p = p ∷ []
 
 module _ {b : Bounds} {arities : List ℕ} {n : ℕ} (worded : Worded b arities n) where
-  all-units : (vs : List ℕ) → All (λ (w : ℕ). Unit {0}) vs
-  all-units [] = none
-  all-units (v ∷ vs) = both tt (all-units vs)
-
   pub noted-words : {t : Term} → Formed arities n t → (ws : List ℕ) (place : ℕ) → noted b arities (words b t ++ ws) 0 place ≡ places t place
   unfolding noted words places
   noted-words (formed-unknown {i = i} h) ws place = noted-kernel b arities (b .first-unknown + i) ws place (λ e. omega (arith, worded .proper .after-marks))
@@ -71,6 +67,6 @@ module _ {b : Bounds} {arities : List ℕ} {n : ℕ} (worded : Worded b arities 
   noted-words (formed-with {m = m} {r = r} f g) ws place =
       rw (append-assoc (words b m) (words b r) ws)
       (ap (λ (l : List ℕ). place ∷ l)
-      (past worded {P = λ w. Unit {0}} (noted b arities) (λ w vs d p u. refl) f (all-units (words b m)) (words b r ++ ws) 0 (place + 1)
+      (past worded {P = λ w. Unit {0}} (noted b arities) (λ w vs d p u. refl) f (All-units (words b m)) (words b r ++ ws) 0 (place + 1)
       ∙ noted-words g ws (place + 1 + size m)))
   noted-words (formed-functor {k = k} {ts = ts} h e f) ws place = noted-kernel b arities (b .first-functor + k) (words* b ts ++ ws) place (λ e. omega (arith, worded .proper .after-marks, worded .proper .before-functors))

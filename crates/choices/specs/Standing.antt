@@ -11,17 +11,17 @@ use lib.ListN.{length, take, drop, getD}
 use lib.Seq.{take-at, drop-at}
 use borrow.Author.Tests.{ltb-true}
 use Rattle.room.specs.Room.{seg, seg-cons, take-seg, drop-seg}
-use Rattle.room.specs.Replaced.{by-test}
 use Rattle.terms.specs.Bounds.{Bounds}
 use Rattle.terms.specs.Term.{Term, unknown, empty, with, functor, words, size, members}
 use Rattle.terms.specs.Flat.{length-words}
 use Rattle.terms.specs.Formed.{Equation, sides, row}
+use Rattle.terms.specs.Lists.{cases}
 use Rattle.rows.specs.Stripped.{kernel-place}
 use Rattle.rows.specs.Members.{member-words}
-use Rattle.rows.specs.States.{pending-words}
 use Rattle.turns.specs.Picking.{equations-by, joining-by}
 use Rattle.choices.specs.Gathered.{gathered, member-piece, marked-piece, joins-piece, meets-piece}
 use Rattle.choices.specs.Places.{places}
+use Rattle.search.specs.StateWords.{pending-words}
 
 -- these words stand at a place
 pub data At (l : List ℕ) : ℕ → List ℕ → Type 0 where
@@ -139,7 +139,7 @@ module _ (b : Bounds) (l : List ℕ) (body : ℕ) where
         let two : picks + i + 1 ≡ picks + (i + 1) = omega arith in
         let ih = joining-is r (p + 1 + size m) (i + 1) ds (rest-stands m r p e) (rw one at a) (rw two at d) (omega arith) in
         rw (f, next, g, many, marked m r p e)
-        (by-test (ltb n (length others))
+        (cases (ltb n (length others))
         (λ t. rw t ih)
         (λ q. rw (q, ih)))
 
@@ -171,7 +171,7 @@ module _ (b : Bounds) (l : List ℕ) (body : ℕ) where
           let two : picks + i + 1 ≡ picks + (i + 1) = omega arith in
           let ih = meeting-is r (p + 1 + size m) (i + 1) ds (rest-stands m r p e) (rw one at a) (rw two at d) (omega arith) in
           rw g
-          (by-test (ltb n (length others))
+          (cases (ltb n (length others))
           (λ t.
           let other = other-is n (ltb-true n (length others) t) in
           rw (t, own, other, ih, paired m (getD others n empty)) (append-assoc (words b (pair m (getD others n empty) .left)) (words b (pair m (getD others n empty) .right)) (row b (sides (equations-by pair tail others (members r) ds)))))

@@ -6,6 +6,7 @@ use mathlib.Core.Bool.{Bool, true, false, _&&_, false≢true}
 use native.Mathlib.Omega.{arith}
 use lib.ListN.{getD}
 use Rattle.terms.specs.Term.{Term, unknown, empty, with, functor, members, kernel, size}
+use Rattle.terms.specs.Lists.{false-unless}
 use Rattle.laws.specs.Equal.{equal, equal-is, each-in, kernels-equal}
 use Rattle.places.specs.Places.{Held, valued, KernelOf}
 use Rattle.places.specs.Classes.{BothSettled, Settled, Told, some-equals, each-equalled, Comparing, ComparingKernels, Compared, relabelled, Same, EachMeets}
@@ -61,10 +62,6 @@ module _ {h : Held} {labels : List ℕ} {p q k l : ℕ} (c : Comparing h labels 
       compared f e = told-since since-both (e ∙ sym (by-parts (valued h p) (valued h q) ∙ rw (← kernels-told, yes, ← (m .told .told), f)))
 
 -- ---- two places
-
-false-unless : (b : Bool) → (b ≡ true → ⊥) → b ≡ false
-false-unless true n = absurd (n refl)
-false-unless false n = refl
 
 module _ {h : Held} {labels : List ℕ} {p q : ℕ} (c : Comparing h labels p q) where
   pub same-label : getD labels p 0 ≡ getD labels q 0 → Same h labels labels p q true

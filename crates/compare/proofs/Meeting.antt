@@ -3,7 +3,7 @@
 use Prim.Native.Nat.{ℕ, _<_, _≤_}
 use mathlib.Core.Path.{_≡_, refl, ap, sym, _∙_}
 use mathlib.Core.List.{List}
-use mathlib.Core.Bool.{Bool, true, false, _||_}
+use mathlib.Core.Bool.{Bool, true, false, _||_, or-false}
 use mathlib.Core.Logic.{_⊎_, inl, inr}
 use native.Mathlib.Omega.{arith}
 use lib.ListN.{length, getD}
@@ -57,10 +57,6 @@ module _ {h : Held} {before labels : List ℕ} {m q y : ℕ} {met : Bool} (w : M
         joined = record { labelled = λ z l s. go z (w .joined z l s) };
       }
     where
-      or-false : (b : Bool) → (b || false) ≡ b
-      or-false true = refl
-      or-false false = refl
-
       go : (z : ℕ) → (getD labels m 0 ≡ getD labels z 0) ⊎ Has h y z → getD labels m 0 ≡ getD labels z 0
       go z (inl e) = e
       go z (inr l) = has-closed n l

@@ -12,28 +12,16 @@ use Rattle.terms.specs.declared.refusal.Refusal.{Refusal}
 use Rattle.text.specs.Text.{choose}
 use Rattle.numerals.specs.Reading.{read, refused, fault, then-read, then-refused}
 use Rattle.numerals.specs.Bytes.{byte, in-text}
-use Rattle.numerals.specs.Numbers.{digit, digits, number, between, of-numeral}
+use Rattle.numerals.specs.Numbers.{digit, digits, number, between, of-numeral, digit-above}
 use Rattle.numerals.specs.declared.number.Numeral.{Numeral}
 use Rattle.numerals.specs.declared.number.Numeral.the-variants.{Value, Unfit}
-
-pub digit-below : (b : ℕ) → b < 48 → digit b ≡ 10
-unfolding digit
-digit-below b h = rw (lt-ltb b 48 h)
-
-pub digit-is : (b : ℕ) → 48 ≤ b → b < 58 → digit b ≡ b - 48
-unfolding digit
-digit-is b l h = rw (le-ltb b 48 l, lt-ltb b 58 h)
-
-pub digit-above : (b : ℕ) → 48 ≤ b → 58 ≤ b → digit b ≡ 10
-unfolding digit
-digit-above b l h = rw (le-ltb b 48 l, le-ltb b 58 h)
 
 -- a byte that is a digit is a byte of the text
 pub digit-in : (s : List ℕ) (p : ℕ) → digit (byte s p) < 10 → p < length s
 digit-in s p h =
     cases (ltb (byte s p) 58)
     (λ t. in-text s p (omega (arith, ltb-true (byte s p) 58 t)))
-    (λ t. let l = ltb-false (byte s p) 58 t in absurd (omega (arith, digit-above (byte s p) (omega arith) l)))
+    (λ t. let l = ltb-false (byte s p) 58 t in absurd (omega (arith, digit-above (byte s p) l)))
 
 -- d was found at p
 module _ (s : List ℕ) (p : ℕ) {d : ℕ} (e : d ≡ digit (byte s p)) where

@@ -1,9 +1,9 @@
 -- Numbers of a text: plain decimal, without a leading zero, of at most five digits.
-use Prim.Native.Nat.{ℕ, zero, suc, _+_, _-_, _*_, _≤_}
+use Prim.Native.Nat.{ℕ, zero, suc, _+_, _-_, _*_, _≤_, _<_}
 use native.Mathlib.Omega.{arith}
 use mathlib.Core.Path.{_≡_}
 use mathlib.Core.List.{List}
-use borrow.Author.Tests.{ltb-false}
+use borrow.Author.Tests.{ltb-false, lt-ltb, le-ltb}
 use lib.Dec.{eqb, ltb}
 use Rattle.terms.specs.Lists.{cases}
 use Rattle.terms.specs.declared.refusal.Cause.the-variants.{Number, Limit}
@@ -16,6 +16,18 @@ use Rattle.numerals.specs.declared.number.Numeral.the-variants.{Value, U
 -- the value of the digit b, or 10 where b is none
 unfoldable pub digit : ℕ → ℕ
 digit b = choose (ltb b 48) (λ _. 10) (λ _. choose (ltb b 58) (λ _. b - 48) (λ _. 10))
+
+pub digit-below : (b : ℕ) → b < 48 → digit b ≡ 10
+unfolding digit
+digit-below b h = rw (lt-ltb b 48 h)
+
+pub digit-value : (b : ℕ) → 48 ≤ b → b < 58 → digit b ≡ b - 48
+unfolding digit
+digit-value b l h = rw (le-ltb b 48 l, lt-ltb b 58 h)
+
+pub digit-above : (b : ℕ) → 58 ≤ b → digit b ≡ 10
+unfolding digit
+digit-above b h = rw (le-ltb b 48 (omega arith), le-ltb b 58 h)
 
 -- the digits at p after digits of value v, of which n may follow; `from` is the number's first byte
 unfoldable pub digits : ℕ → List ℕ → ℕ → ℕ → ℕ → Reading ℕ

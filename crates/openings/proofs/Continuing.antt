@@ -11,6 +11,7 @@ use Rattle.room.specs.Room.{seg, getD-seg}
 use Rattle.terms.specs.Bounds.{edition-one}
 use Rattle.terms.specs.Term.{Term, members, kernel, size, words}
 use Rattle.terms.specs.Flat.{size-positive, length-words}
+use Rattle.terms.specs.Members.{formed-kernel}
 use Rattle.search.specs.State.{State}
 use Rattle.search.specs.Classify.{tails}
 use Rattle.search.specs.Children.{children}
@@ -20,7 +21,7 @@ use Rattle.binding.specs.At.{first-size}
 use Rattle.rows.specs.declared.parts.Rest.{Rest}
 use Rattle.rows.specs.declared.header.Header.{Header}
 use Rattle.rows.specs.First.{header-in, HeaderParts, rest-after}
-use Rattle.rows.specs.Members.{member-words, head-word, head-kernel, formed-kernel, words-members, length-members}
+use Rattle.rows.specs.Members.{member-words, head-word, head-kernel, words-members, length-members}
 use Rattle.rows.specs.Row.{header-for}
 use Rattle.rows.specs.Stepping.{tails-of, tails-of-heads}
 use Rattle.rows.specs.Stripped.{kernel-place}
@@ -158,7 +159,7 @@ module _ {arities l : List ℕ} {at lent scratch most : ℕ} {st : State} {last 
       unfolding tails
       kind-is =
           let T = open-there (splitting refl) in
-          found ∙ rw (s-word, r-word) (tails-of-heads (T .worded) (formed-kernel (T .worded) (T .formed-t)) (formed-kernel (T .worded) (T .formed-u))) ∙ sets t u (O .shown .step-is) .kind
+          found ∙ rw (s-word, r-word) (tails-of-heads (T .worded) (formed-kernel (T .formed-t)) (formed-kernel (T .formed-u))) ∙ sets t u (O .shown .step-is) .kind
 
       abbrev S : Splitting arities l at rest (size t) (size t + size u) k (last + 1) lent (st .next) scratch most st (O .shown .first) (O .shown .others)
       S = splitting kind-is

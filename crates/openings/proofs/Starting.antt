@@ -4,7 +4,7 @@ use mathlib.Core.Path.{_≡_, sym, ap, _∙_}
 use mathlib.Core.List.{List, [], _∷_, _++_}
 use native.Mathlib.Omega.{arith}
 use native.Mathlib.Nat.{zero-mul, one-mul, mul-le-mul-right}
-use lib.ListN.{length, length-append}
+use lib.ListN.{length, length-append, drop-of-length-le}
 use Rattle.room.specs.Room.{seg, put, length-put, length-seg, seg-append, seg-put-same}
 use Rattle.room.specs.Parts.{earlier, seg-put}
 use Rattle.terms.specs.Term.{members, size}
@@ -12,7 +12,7 @@ use Rattle.terms.specs.Formed.{Equation}
 use Rattle.search.specs.State.{State}
 use Rattle.search.specs.declared.steps.Tails.{Tails}
 use Rattle.rows.specs.declared.parts.Rest.{Rest}
-use Rattle.turns.specs.Numbers.{choices, number as value-of, drop-past}
+use Rattle.turns.specs.Numbers.{choices, number as value-of}
 use Rattle.turns.specs.Picking.{radix}
 use Rattle.choices.specs.declared.sides.Sides.{Sides}
 use Rattle.choices.specs.Digits.{copies, length-copies, length-digits, DigitParts, Decoded}
@@ -164,7 +164,7 @@ module _ {arities l : List ℕ} {at : ℕ} {rest : Rest} {right end : ℕ} {kind
             let c : ℕ = choices (copies (sides .n) first ++ copies (sides .m) second) in
             let one : 1 ≤ left = omega arith in
             let m : 1 * c ≤ left * c = mul-le-mul-right c one in
-            opens-none S r′ all-long all-below (rw (all-of S (written .ds) (written .es)) (drop-past (all-children start) number (omega (arith, how-many here, D .value, one-mul c, m))))
+            opens-none S r′ all-long all-below (rw (all-of S (written .ds) (written .es)) (drop-of-length-le (all-children start) (omega (arith, how-many here, D .value, one-mul c, m))))
 
         place-of : left ≡ 0 → place start ≡ number
         place-of z =

@@ -4,14 +4,14 @@ use mathlib.Core.Path.{_≡_, refl, sym, ap}
 use mathlib.Core.Bool.{Bool}
 use mathlib.Core.List.{List, [], _∷_, _++_}
 use native.Mathlib.Omega.{arith}
-use lib.ListN.{length, drop}
+use lib.ListN.{length, drop, drop-of-length-le}
 use Rattle.terms.specs.Term.{Term, members, kernel}
 use Rattle.terms.specs.Shape.{is-unknown}
 use Rattle.terms.specs.Formed.{Equation}
 use Rattle.search.specs.Classify.{tails}
 use Rattle.search.specs.declared.steps.Tails.{Tails}
 use Rattle.rows.specs.declared.parts.Rest.{Rest}
-use Rattle.turns.specs.Numbers.{choices, number, Digits, no-digit, digit, choices-append, number-append, drop-past}
+use Rattle.turns.specs.Numbers.{choices, number, Digits, no-digit, digit, choices-append, number-append}
 use Rattle.turns.specs.Picking.{radix, radices-of, t-radices, u-radices, child-number, drop-split, length-split}
 use Rattle.choices.specs.declared.sides.Sides.{Sides}
 use Rattle.choices.specs.Digits.{copies}
@@ -68,4 +68,4 @@ module _ {arities l : List ℕ} {at : ℕ} {rest : Rest} {sides : Sides} {kind :
 
   -- after the last one there is none
   pub none-after : suc (number radices (p .ds ++ p .es)) ≡ choices radices → drop (suc (place p)) (all-children p) ≡ []
-  none-after e = drop-past (all-children p) (suc (place p)) (omega (arith, how-many, place-is))
+  none-after e = drop-of-length-le (all-children p) (omega (arith, how-many, place-is))

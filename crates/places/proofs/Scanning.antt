@@ -2,18 +2,15 @@
 use Prim.Native.Nat.{ℕ}
 use mathlib.Core.Path.{_≡_, refl, _∙_}
 use mathlib.Core.List.{List}
-use mathlib.Core.Bool.{Bool, true, false, _&&_}
+use mathlib.Core.Bool.{true, false, _&&_}
 use lib.ListN.{getD}
 use Rattle.terms.specs.Term.{members}
+use Rattle.terms.specs.Lists.{false-unless}
 use Rattle.laws.specs.Equal.{equal}
 use Rattle.places.specs.Places.{Held, valued, Known, AtMember, Has, first, later, member-of, rest-of}
 use Rattle.places.specs.Classes.{some-equals, each-equalled, Compared, ComparedWith}
 use Rattle.places.specs.Opened.{Opened, opened, closed}
 use Rattle.places.specs.Membership.{some-open, each-open, some-closed, each-closed}
-
-pub not-true : (b : Bool) → (b ≡ true → ⊥) → b ≡ false
-not-true true n = absurd (n refl)
-not-true false n = refl
 
 -- from the set at p the walk has come to x
 pub record Walk (h : Held) (p x : ℕ) : Type 0 where
@@ -62,7 +59,7 @@ module _ {h : Held} {labels : List ℕ} {p m x : ℕ} (c : Covering h labels p m
           walk = walk-on (c .walk) e covering-opened;
           so-far =
               c .so-far ∙ some-open covering-opened (valued h m)
-              ∙ rw (not-true (equal (valued h (member-of h x)) (valued h m)) (λ q. n (c .compared .labelled _ (walk-member (c .walk) e) q)));
+              ∙ rw (false-unless (equal (valued h (member-of h x)) (valued h m)) (λ q. n (c .compared .labelled _ (walk-member (c .walk) e) q)));
         }
 
 -- ---- and so for each member at q

@@ -12,8 +12,10 @@ use Rattle.terms.specs.Kind.{Worded}
 use Rattle.terms.specs.Term.{Terms, functor, words, words*, size, size*, list, count}
 use Rattle.terms.specs.Formed.{Equation, Formed, Formed*, formed-functor, formed-none, formed-more, row, sides}
 use Rattle.terms.specs.Flat.{length-words}
+use Rattle.terms.specs.Answers.{pile-words}
 use Rattle.search.specs.State.{State, live, pend, size-equations, size-named, state-size}
 use Rattle.search.specs.Children.{pairwise}
+use Rattle.search.specs.StateWords.{pending-words}
 use Rattle.rows.specs.declared.parts.Rest.{Rest}
 use Rattle.rows.specs.declared.parts.Made.{Made}
 use Rattle.rows.specs.Header.{header-of}
@@ -21,8 +23,6 @@ use Rattle.rows.specs.Bind.{FinishParts}
 use Rattle.binding.specs.Keep.{kept-piece, kept-header}
 use Rattle.rows.specs.Ended.{term-end-words}
 use Rattle.rows.specs.Finished.{Finished, finish-long}
-use Rattle.rows.specs.Pile.{pile-words}
-use Rattle.rows.specs.States.{pending-words}
 use Rattle.rows.specs.Row.{Makes, Beside, beside-put, finished-beside}
 use Rattle.binding.specs.Child.{Piled, extended, keep-makes}
 use Rattle.plain_steps.specs.Single.{PairParts, DecomposeParts, paired, decomposed, length-paired}

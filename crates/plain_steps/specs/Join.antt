@@ -8,19 +8,18 @@ use native.Mathlib.Nat.{zero-add}
 use lib.Dec.{eqb}
 use lib.ListN.{length, take, drop, length-append, length-take, length-drop}
 use lib.Seq.{drop-at, take-append-le}
-use borrow.Author.Tests.{eqb-true, eqb-false, ne-eqb, eq-eqb}
-use Rattle.room.specs.Replaced.{by-test}
+use borrow.Author.Tests.{eqb-true}
 use Rattle.terms.specs.Bounds.{Bounds, Proper}
 use Rattle.terms.specs.Kind.{takes, takes-member, Worded}
-use Rattle.terms.specs.Lists.{All, none, both}
+use Rattle.terms.specs.Lists.{All, none, both, cases}
 use Rattle.terms.specs.Term.{words, size, members, kernel}
 use Rattle.terms.specs.Formed.{Formed}
-use Rattle.terms.specs.Answers.{Named}
-use Rattle.terms.specs.Flat.{length-words}
+use Rattle.terms.specs.Answers.{Named, pile-words}
+use Rattle.terms.specs.Flat.{length-words, eqb-shift}
 use Rattle.search.specs.Children.{entries, joined}
 use Rattle.rows.specs.Ended.{ended, ended-from, ended-within, term-end, term-end-words}
 use Rattle.rows.specs.Stripped.{stripped, kernel-at, kernel-at-words, kernel-place}
-use Rattle.rows.specs.Pile.{kept, pile-words}
+use Rattle.rows.specs.Pile.{kept}
 use Rattle.rows.specs.Members.{member-words, members-append, take-members, length-members, words-members}
 
 -- at most so many entries are read
@@ -52,7 +51,7 @@ module _ {b : Bounds} (proper : Proper b) (arities : List ℕ) where
   unfolding stripped ended
   stripped-ended [] due place = omega arith
   stripped-ended (w ∷ ws) zero place =
-      by-test (eqb w 1)
+      cases (eqb w 1)
       (λ e.
       let o : w ≡ 1 = eqb-true w 1 e in
       let k : 0 + takes b arities w ≡ 2 = zero-add (takes b arities w) ∙ rw o (takes-member proper arities) in
@@ -81,16 +80,10 @@ module _ {b : Bounds} (proper : Proper b) (arities : List ℕ) where
       )
 
 module _ {b : Bounds} {arities : List ℕ} {k : ℕ} (worded : Worded b arities k) (x : ℕ) where
-  same-name : (i : ℕ) → eqb (b .first-unknown + i) (b .first-unknown + x) ≡ eqb i x
-  same-name i =
-      by-test (eqb i x)
-      (λ t. rw t (eq-eqb _ _ (ap (λ (j : ℕ). b .first-unknown + j) (eqb-true i x t))))
-      (λ f. rw f (ne-eqb (b .first-unknown + i) (b .first-unknown + x) (λ e. eqb-false i x f (omega arith))))
-
   joined-entry : (n : Named) (ns : List Named) → member-words b (joined x (n ∷ ns)) ≡ kept (eqb (n .name) x) (member-words b (members (n .value))) ++ member-words b (joined x ns)
   unfolding joined entries kept flatMap
   joined-entry n ns =
-      by-test (eqb (n .name) x)
+      cases (eqb (n .name) x)
       (λ e. rw e (members-append b (members (n .value)) (joined x ns)))
       (λ e. rw e)
 
@@ -109,5 +102,5 @@ module _ {b : Bounds} {arities : List ℕ} {k : ℕ} (worded : Worded b arities 
       take-append-le (kernel-place (n .value)) v (pile-words b ns)
       (omega (arith, length-members b (n .value), ap length (words-members b (n .value)), length-append (member-words b (members (n .value))) (words b (kernel (n .value)))))
       ∙ take-members b (n .value) in
-      rw (e, q, p, same-name (n .name), drop-at v (pile-words b ns) (size (n .value)) l, gathered-pile most fs (omega (arith, length-append v (pile-words b ns))))
+      rw (e, q, p, eqb-shift (b .first-unknown) (n .name) x, drop-at v (pile-words b ns) (size (n .value)) l, gathered-pile most fs (omega (arith, length-append v (pile-words b ns))))
       (sym (joined-entry n ns))

@@ -2,31 +2,30 @@
 use Prim.Native.Nat.{ℕ, suc, _+_, _-_, _<_, _≤_}
 use mathlib.Core.Path.{_≡_, refl, ap, sym, _∙_}
 use mathlib.Core.List.{List, [], _∷_, _++_}
-use mathlib.Core.Bool.{Bool, true, false, _||_}
+use mathlib.Core.Bool.{false}
 use native.Mathlib.Omega.{arith}
 use native.Mathlib.Numerals.{add-one}
 use native.Mathlib.Decide.{decLe}
-use lib.Dec.{eqb}
 use lib.ListN.{length, getD, length-append}
-use borrow.Author.Tests.{ne-eqb, lt-ltb}
+use borrow.Author.Tests.{lt-ltb}
 use Rattle.room.specs.Room.{seg, put, length-put, seg-put-same, getD-seg}
 use Rattle.room.specs.Parts.{earlier, later, seg-put}
-use Rattle.room.specs.Replaced.{by-test}
 use Rattle.terms.specs.Bounds.{edition-one, edition-one-proper}
-use Rattle.terms.specs.Lists.{All, both, any}
+use Rattle.terms.specs.Lists.{All, both, any, cases}
 use Rattle.terms.specs.Term.{Term, unknown, words, size, occurs, over}
-use Rattle.terms.specs.Answers.{Named}
+use Rattle.terms.specs.Answers.{Named, pile-words}
+use Rattle.terms.specs.Substitution.{occurs-over}
 use Rattle.search.specs.State.{State, Node, live, dead, pend, renewed, size-equations, size-named, state-size}
-use Rattle.search.specs.Children.{entries, others, bound-state, bound, joined}
+use Rattle.search.specs.Children.{others, bound-state, bound, joined}
+use Rattle.search.specs.Entries.{entries-others, others-others}
+use Rattle.search.specs.StateWords.{length-pile}
 use Rattle.rows.specs.declared.parts.Rest.{Rest}
 use Rattle.rows.specs.declared.parts.Made.{Made}
 use Rattle.rows.specs.declared.parts.Made.the-variants.{Dead, Names, Live}
 use Rattle.rows.specs.Bind.{FinishParts}
 use Rattle.rows.specs.Flat.{holds}
 use Rattle.rows.specs.Finished.{finish-long}
-use Rattle.rows.specs.Pile.{pile-words}
 use Rattle.rows.specs.Members.{member-words, words-over, holds-members}
-use Rattle.rows.specs.States.{length-pile}
 use Rattle.plain_steps.specs.Join.{gathered-pile, length-gathered}
 use Rattle.plain_steps.specs.Joining.{JoinParts, joining-word, joining-words, valued, Joined}
 use Rattle.rows.specs.Row.{Rested, Makes, Beside, beside-same, beside-aside, finished-beside, header-for, becomes}
@@ -34,18 +33,6 @@ use Rattle.binding.specs.Child.{Stands, finish-pile-makes}
 use Rattle.rows.specs.First.{rest-after}
 use Rattle.plain_steps.specs.Singles.{rested-put, makes-after}
 use Rattle.binding.specs.At.{sound-worded, Held, rested, finish-parts, rest-room}
-
--- ---- the entries of x among the others: none
-
-pub entries-others : (x : ℕ) (ns : List Named) → entries x (others x ns) ≡ []
-unfolding entries others
-entries-others x [] = refl
-entries-others x (n ∷ ns) = by-test (eqb (n .name) x) (λ t. rw t (entries-others x ns)) (λ f. rw (f, f) (entries-others x ns))
-
-pub others-others : (x : ℕ) (ns : List Named) → others x (others x ns) ≡ others x ns
-unfolding others
-others-others x [] = refl
-others-others x (n ∷ ns) = by-test (eqb (n .name) x) (λ t. rw t (others-others x ns)) (λ f. rw (f, f) (ap (λ (l : List Named). n ∷ l) (others-others x ns)))
 
 -- a node that is not written
 makes-none : {l : List ℕ} {to lent : ℕ} {node : Node} {a : Made} {r : List ℕ} (i : ℕ) (vs : List ℕ) → r ≡ put l i vs → to ≤ i → a ≡ becomes edition-one lent node → (a ≡ Live → ⊥) → Makes edition-one l to lent node a r
@@ -55,11 +42,6 @@ makes-none {l} i vs e h t d = record {
   tells = t;
   holds = λ st p q. absurd (d q);
 }
-
-occurs-over : (x : ℕ) (ms : List Term) (k : Term) → occurs x (over ms k) ≡ (any (occurs x) ms || occurs x k)
-unfolding occurs over any
-occurs-over x [] k = refl
-occurs-over x (m ∷ ms) k = by-test (occurs x m) (λ t. rw t) (λ f. rw f (occurs-over x ms k))
 
 module _ {arities r₀ : List ℕ} {from to scratch lent : ℕ} {st : State} (H : Held arities r₀ from to scratch lent st) (quiet : st .pending ≡ []) {n₀ : Named} {ns : List Named} (some : st .pile ≡ n₀ ∷ ns) where
   abbrev rest : Rest
@@ -117,12 +99,7 @@ module _ {arities r₀ : List ℕ} {from to scratch lent : ℕ} {st : State} (H 
   deadness = rw (word-is, words-are) (holds-members edition-one-proper (omega (arith, small-name, H .sound .few)) ms)
 
   occurs-is : occurs x t ≡ any (occurs x) ms
-  unfolding occurs
-  occurs-is = occurs-over x ms (unknown (st .next)) ∙ rw (ne-eqb (st .next) x (λ e. omega (arith, small-name))) (or-false (any (occurs x) ms))
-    where
-      or-false : (c : Bool) → (c || false) ≡ c
-      or-false true = refl
-      or-false false = refl
+  occurs-is = occurs-over x (st .next) (λ e. omega (arith, small-name)) ms
 
   abbrev before : State
   before = renewed (record { pending = []; pile = others x (st .pile); bindings = st .bindings; next = st .next })
@@ -209,7 +186,7 @@ module _ {arities r₀ : List ℕ} {from to scratch lent : ℕ} {st : State} (H 
   pub join-made : {a : Made} {r : List ℕ} → Joined arities r₀ rest scratch to lent (st .next) a r → Makes edition-one r₀ to lent (bound x t before) a r
   unfolding bound becomes
   join-made {a} {r} J =
-      by-test (any (occurs x) ms)
+      cases (any (occurs x) ms)
       (λ e. rw (occurs-is, e) (let d = J .dead (deadness ∙ e) in makes-none scratch G (d .1) (omega (arith, H .rows .next-row)) (d .0) (λ q. never (sym (d .0) ∙ q))))
       (λ e. rw (occurs-is, e) (by-order (decLe 512 (st .next)) e))
     where
@@ -223,7 +200,7 @@ module _ {arities r₀ : List ℕ} {from to scratch lent : ℕ} {st : State} (H 
   pub join-beside : {a : Made} {r : List ℕ} → Joined arities r₀ rest scratch to lent (st .next) a r → Beside r₀ r to lent scratch
   unfolding valued
   join-beside {a} {r} J =
-      by-test (holds (joining-word r₀ rest) G)
+      cases (holds (joining-word r₀ rest) G)
       (λ e. unwritten (J .dead e .1))
       (λ e. by-order (decLe 512 (st .next)) e)
     where

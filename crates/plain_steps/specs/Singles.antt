@@ -10,17 +10,17 @@ use Rattle.room.specs.Replaced.{replaced, replaced-nil}
 use Rattle.terms.specs.Bounds.{edition-one}
 use Rattle.terms.specs.Term.{Term, words, size}
 use Rattle.terms.specs.Formed.{Equation, row, sides}
+use Rattle.terms.specs.Answers.{pile-words}
 use Rattle.search.specs.State.{State, Node, live, pend, piled, size-equations, size-named, state-size}
 use Rattle.search.specs.Children.{bound-state}
+use Rattle.search.specs.StateWords.{pending-words}
 use Rattle.rows.specs.declared.parts.Rest.{Rest}
 use Rattle.rows.specs.declared.parts.Made.{Made}
 use Rattle.rows.specs.declared.first.Subject.{Subject}
 use Rattle.rows.specs.Header.{header-of}
 use Rattle.rows.specs.Bind.{FinishParts, pending-piece, pile-piece, bound-piece}
 use Rattle.binding.specs.Keep.{kept-piece, kept-header}
-use Rattle.rows.specs.Pile.{pile-words}
 use Rattle.rows.specs.Finished.{Finished, bound-header, finish-long}
-use Rattle.rows.specs.States.{pending-words}
 use Rattle.rows.specs.Row.{Rested, Makes, Beside, beside-aside, finished-beside, header-for}
 use Rattle.binding.specs.Child.{Piled, ahead, extended, finish-makes, keep-makes}
 use Rattle.rows.specs.First.{rest-after}

@@ -14,15 +14,15 @@ use Rattle.laws.specs.Values.{Values, GroundValues, Solves}
 use Rattle.search.specs.declared.ends.End.the-variants.{Done, Names}
 use Rattle.search.specs.State.{State, state-size}
 use Rattle.search.specs.Run.{Loan, visits, root, ran}
+use Rattle.search.specs.StateWords.{state-words, length-state}
 use Rattle.answers.specs.Fits.{Meets, Fits}
 use Rattle.answers.specs.DemandTwo as demand
-use Rattle.promises.specs.Wording.{NoLess, Begins, whole, Answers-in-form, state-words}
+use Rattle.promises.specs.Wording.{NoLess, Begins, whole, Answers-in-form}
 use Rattle.promises.specs.Runs.Lending.{more-lent, listed-begins}
 use Rattle.promises.specs.Runs.Ending.{visits-settle}
 use Rattle.promises.specs.Runs.Completing.{enough, done-whole}
 use Rattle.promises.specs.Runs.Naming.{names-within, never-names}
 use Rattle.promises.specs.Runs.Answering.{answers-in-form}
-use Rattle.promises.specs.Runs.Sizes.{state-length}
 
 -- ---- demand 2: every answer true and none lost
 
@@ -90,4 +90,4 @@ answers-are-solved-forms b q l g = answers-in-form b q l (g .formed)
 
 -- a state's size is the number of its words
 pub size-is-words : (b : Bounds) (st : State) → length (state-words b st) ≡ state-size st
-size-is-words = state-length
+size-is-words = length-state

@@ -1,7 +1,6 @@
--- What follows of searches and runs: more lent, same list (`Agreeing`, `Verdicts`, `Lending`); the tree from the root on (`Visiting`, `Tree`); that it
--- ends (`Measures`, `Ending`, `Completing`); names, the form of answers, sizes.
+-- What follows of searches and runs: more lent, same list (`Agreeing`, `Lending`); the tree from the root on (`Visiting`, `Tree`); that it
+-- ends (`Measures`, `Ending`, `Completing`); names, the form of answers.
 pub mod Agreeing
-pub mod Verdicts
 pub mod Lending
 pub mod Visiting
 pub mod Tree
@@ -10,4 +9,3 @@ pub mod Ending
 pub mod Naming
 pub mod Answering
 pub mod Completing
-pub mod Sizes

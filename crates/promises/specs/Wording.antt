@@ -1,16 +1,15 @@
 -- The words in which the promises are put. Whatever else they name is a definition of `terms` or of `search`.
-use Prim.Native.Nat.{ℕ, _+_, _≤_, _<_}
+use Prim.Native.Nat.{ℕ, _+_, _≤_}
 use mathlib.Core.Path.{_≡_}
-use mathlib.Core.List.{List, [], _∷_, _++_, map}
+use mathlib.Core.List.{List, [], _∷_, _++_}
 use mathlib.Core.Bool.{false}
 use lib.ListN.{length}
 use Rattle.terms.specs.Bounds.{Bounds}
 use Rattle.terms.specs.Lists.{All}
 use Rattle.terms.specs.Term.{occurs}
-use Rattle.terms.specs.Formed.{Formed, sides, row}
-use Rattle.terms.specs.Answers.{Named, binding-words, answer-words}
+use Rattle.terms.specs.Answers.{Named, answer-words}
+use Rattle.terms.specs.Listing.{Bound}
 use Rattle.search.specs.declared.ends.End.the-variants.{Done}
-use Rattle.search.specs.State.{State}
 use Rattle.search.specs.Run.{Loan, Outcome, Visit, found}
 
 -- ---- of two runs
@@ -49,26 +48,11 @@ pub data Solved : List Named → Type 0 where
       → Solved ns
       → Solved (n ∷ ns)
 
--- a line over the first n unknowns
-pub record Formed-line (arities : List ℕ) (n : ℕ) (m : Named) : Type 0 where
-  pub name : m .name < n
-  pub value : Formed arities n (m .value)
-
 -- bindings in solved form, over the first n unknowns
 pub record In-form (arities : List ℕ) (n : ℕ) (bs : List Named) : Type 0 where
   pub solved : Solved bs
-  pub formed : All (Formed-line arities n) bs
+  pub formed : All (Bound arities n) bs
 
 -- the words of bindings in form
 pub data Answers-in-form (b : Bounds) (arities : List ℕ) (n : ℕ) : List ℕ → Type 0 where
   words-of : (bs : List Named) → In-form arities n bs → Answers-in-form b arities n (answer-words b bs)
-
--- ---- of a state
-
--- an entry of the pile is written as a binding is, with its unknown's word for the number
-unfoldable pub pile-words : Bounds → List Named → List ℕ
-pile-words b ns = binding-words b (map (λ n. record { name = b .first-unknown + n .name; value = n .value }) ns)
-
--- the sides of what is pending, the pile, the bindings, one after the other
-unfoldable pub state-words : Bounds → State → List ℕ
-state-words b st = row b (sides (st .pending)) ++ (pile-words b (st .pile) ++ binding-words b (st .bindings))

@@ -8,19 +8,18 @@ use lib.ListN.{length, take, getD}
 use lib.Seq.{getD-take}
 use borrow.Author.Tests.{eq-eqb, ne-eqb}
 use Rattle.room.specs.Room.{seg, length-seg, take-seg, seg-seg}
-use Rattle.room.specs.Replaced.{by-test}
 use Rattle.terms.specs.Bounds.{edition-one}
 use Rattle.terms.specs.Formed.{Equation, sides}
 use Rattle.terms.specs.Formed.{row as side-words}
 use Rattle.terms.specs.Flat.{size-positive}
-use Rattle.terms.specs.Answers.{Named, answer-words}
+use Rattle.terms.specs.Answers.{Named, answer-words, pile-words}
+use Rattle.terms.specs.Lists.{cases}
 use Rattle.search.specs.State.{State, size-equations, size-named, state-size}
 use Rattle.search.specs.Run.{answer-by, found}
+use Rattle.search.specs.StateWords.{pending-words, state-words}
 use Rattle.rows.specs.declared.header.Header.{Header}
 use Rattle.rows.specs.First.{header-in}
-use Rattle.rows.specs.Pile.{pile-words}
-use Rattle.rows.specs.States.{pending-words, body-words}
-use Rattle.rows.specs.Row.{Holds, header-for, state-words}
+use Rattle.rows.specs.Row.{Holds, header-for, header-words}
 use Rattle.results.specs.declared.ran.Record.{Record}
 use Rattle.record.specs.Counts.{listed-by, answer-in, Notable}
 
@@ -45,7 +44,7 @@ module _ (row : List ℕ) {h : Header} (e : h ≡ header-in (take 5 row)) where
 
   pub pile-none : 0 < h .pile → answer-in row ≡ []
   unfolding answer-in
-  pile-none p = by-test (eqb (getD row 0 0) 0) (λ t. rw (t, ne-eqb (getD row 1 0) 0 (λ z. omega (arith, pile-is)))) (λ f. rw f)
+  pile-none p = cases (eqb (getD row 0 0) 0) (λ t. rw (t, ne-eqb (getD row 1 0) 0 (λ z. omega (arith, pile-is)))) (λ f. rw f)
 
   pub one-answer : h .pending ≤ 0 → h .pile ≤ 0 → answer-in row ≡ listed-by row (h .body) ∷ []
   unfolding answer-in
@@ -61,10 +60,10 @@ module _ {l : List ℕ} {to : ℕ} {st : State} (H : Holds edition-one l to st) 
   row = seg l to n
 
   header-is : header-for st ≡ header-in (take 5 row)
-  unfolding header-in state-words
+  unfolding header-in header-words
   header-is = sym (rw (take-seg l to n 5 (omega arith), H .header))
 
-  body-words-are : seg row 8 (state-size st) ≡ body-words edition-one st
+  body-words-are : seg row 8 (state-size st) ≡ state-words edition-one st
   body-words-are = seg-seg l to n 8 (state-size st) fits ∙ H .body
 
   count-is : getD row 3 0 ≡ length (st .bindings)
@@ -72,7 +71,7 @@ module _ {l : List ℕ} {to : ℕ} {st : State} (H : Holds edition-one l to st) 
   count-is = sym (ap (λ (h : Header). h .bindings) header-is ∙ getD-take 5 row 3 0 (omega arith))
 
   listing : st .pending ≡ [] → st .pile ≡ [] → listed-by row (state-size st) ≡ answer-words edition-one (st .bindings)
-  unfolding listed-by answer-words body-words pending-words pile-words side-words sides
+  unfolding listed-by answer-words state-words pending-words pile-words side-words sides
   listing p q = rw (count-is, body-words-are, p, q)
 
   answer-by-parts : (es : List Equation) (ns : List Named) → st .pending ≡ es → st .pile ≡ ns → answer-in row ≡ found edition-one (answer-by es ns (st .bindings))

@@ -14,7 +14,8 @@ use lib.Dec.{leb}
 use borrow.Author.Tests.{le-leb, lt-leb, leb-true, leb-false}
 use Rattle.replace.specs.declared.Copied.{Copied}
 use Rattle.replace.specs.declared.Copied.the-variants.{Done, Full}
-use Rattle.room.specs.Replaced.{image, replaced, by-test}
+use Rattle.room.specs.Replaced.{image, replaced}
+use Rattle.room.specs.Cases.{cases}
 
 unfoldable pub fitting : ℕ → List ℕ → ℕ → List ℕ → List ℕ
 fitting x ws capacity [] = []
@@ -36,7 +37,7 @@ module _ (x : ℕ) (ws : List ℕ) where
   length-fitting capacity [] = omega arith
   length-fitting capacity (w ∷ s) =
       let n : ℕ = length (image x ws w) in
-      by-test (leb n capacity)
+      cases (leb n capacity)
       (λ e.
       rw e (omega (arith, length-append (image x ws w) (fitting x ws (capacity - n) s), length-fitting (capacity - n) s, leb-true n capacity e)))
       (λ e. rw e (omega arith))
@@ -47,7 +48,7 @@ module _ (x : ℕ) (ws : List ℕ) where
   take-fitting capacity (w ∷ s) =
       let u : List ℕ = image x ws w in
       let v : List ℕ = fitting x ws (capacity - length u) s in
-      by-test (leb (length u) capacity)
+      cases (leb (length u) capacity)
       (λ e. rw (e, length-append u v, take-append-add) (ap (λ (r : List ℕ). u ++ r) (take-fitting (capacity - length u) s)))
       (λ e. rw e)
 
@@ -86,7 +87,7 @@ module _ (x : ℕ) (ws : List ℕ) where
   fitting-append-full capacity [] t h = absurd (omega arith)
   fitting-append-full capacity (w ∷ s) t h =
       let u : List ℕ = image x ws w in
-      by-test (leb (length u) capacity)
+      cases (leb (length u) capacity)
       (λ e.
       let f = leb-true (length u) capacity e in
       rw e (ap (λ (r : List ℕ). u ++ r) (fitting-append-full (capacity - length u) s t (omega (arith, length-append u (replaced x ws s))))))
@@ -105,14 +106,14 @@ told-of-lt capacity out h = rw (lt-leb (length out) capacity h)
 pub told-done : (capacity n : ℕ) (out : List ℕ) → told capacity out ≡ Done n → (length out ≤ capacity) × (length out ≡ n)
 unfolding told
 told-done capacity n out e =
-    by-test (leb (length out) capacity)
+    cases (leb (length out) capacity)
     (λ t. let f : Done (length out) ≡ Done n = simp t at e in let g : length out ≡ n = cc in (leb-true (length out) capacity t, g))
     (λ t. let f : _≡_ {A = Copied} Full (Done n) = simp t at e in let g : _≡_ {A = ℕ} 0 1 = cc in absurd (omega arith))
 
 pub told-full : (capacity : ℕ) (out : List ℕ) → told capacity out ≡ Full → capacity < length out
 unfolding told
 told-full capacity out e =
-    by-test (leb (length out) capacity)
+    cases (leb (length out) capacity)
     (λ t. let f : _≡_ {A = Copied} (Done (length out)) Full = simp t at e in let g : _≡_ {A = ℕ} 0 1 = cc in absurd (omega arith))
     (λ t. leb-false (length out) capacity t)
 
@@ -122,7 +123,7 @@ pub told-append : (capacity : ℕ) (a b : List ℕ) → length a ≤ capacity �
 unfolding further
 told-append capacity a b h =
     let e = length-append a b in
-    by-test (leb (length b) (capacity - length a))
+    cases (leb (length b) (capacity - length a))
     (λ t.
     let f = leb-true (length b) (capacity - length a) t in
     rw (told-of-le capacity (a ++ b) (omega arith), told-of-le (capacity - length a) b f, e))

@@ -1,3 +1,4 @@
+pub mod Cases
 pub mod Room
 pub mod Parts
 pub mod Replaced

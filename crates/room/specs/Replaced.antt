@@ -12,6 +12,7 @@ use native.Mathlib.Nat.{zero-mul, suc-mul}
 use lib.ListN.{length, take, getD, length-append}
 use lib.Dec.{eqb}
 use borrow.Author.Tests.{eq-eqb, ne-eqb, eqb-true, eqb-false}
+use Rattle.room.specs.Cases.{cases}
 
 -- what stands for the word w
 unfoldable pub image : ℕ → List ℕ → ℕ → List ℕ
@@ -36,16 +37,11 @@ unfoldable pub before : ℕ → List ℕ → List ℕ
 before x [] = []
 before x (w ∷ s) = cond (eqb w x) [] (w ∷ before x s)
 
--- by what a test says
-pub by-test : {P : Type 0} (b : Bool) → (b ≡ true → P) → (b ≡ false → P) → P
-by-test true f g = f refl
-by-test false f g = g refl
-
 pub count-append : (x : ℕ) (s t : List ℕ) → count x (s ++ t) ≡ count x s + count x t
 unfolding count
 count-append x [] t = omega arith
 count-append x (w ∷ s) t =
-    by-test (eqb w x) (λ e. rw e (omega (arith, count-append x s t))) (λ e. rw e (omega (arith, count-append x s t)))
+    cases (eqb w x) (λ e. rw e (omega (arith, count-append x s t))) (λ e. rw e (omega (arith, count-append x s t)))
 
 module _ (x : ℕ) (ws : List ℕ) where
   -- ---- one step
@@ -80,7 +76,7 @@ module _ (x : ℕ) (ws : List ℕ) where
   unfolding replaced image count
   length-replaced [] = omega (arith, zero-mul (length ws))
   length-replaced (w ∷ s) =
-      by-test (eqb w x)
+      cases (eqb w x)
       (λ e. rw e (omega (arith, length-append ws (replaced x ws s), length-replaced s, suc-mul (count x s) (length ws))))
       (λ e. rw e (omega (arith, length-replaced s)))
 
@@ -89,7 +85,7 @@ module _ (x : ℕ) (ws : List ℕ) where
   unfolding replaced image
   length-le-replaced [] h = omega arith
   length-le-replaced (w ∷ s) h =
-      by-test (eqb w x)
+      cases (eqb w x)
       (λ e. rw e (omega (arith, length-append ws (replaced x ws s), length-le-replaced s h)))
       (λ e. rw e (omega (arith, length-le-replaced s h)))
 
@@ -99,7 +95,7 @@ module _ (x : ℕ) (ws : List ℕ) where
   unfolding replaced image count
   replaced-none [] h = refl
   replaced-none (w ∷ s) h =
-      by-test (eqb w x)
+      cases (eqb w x)
       (λ e. let f : suc (count x s) ≡ 0 = rw e at h in absurd (omega arith))
       (λ e. rw e (ap (λ (r : List ℕ). w ∷ r) (replaced-none s (rw e at h))))
 
@@ -107,7 +103,7 @@ module _ (x : ℕ) (ws : List ℕ) where
   unfolding replaced image count
   count-replaced [] h = refl
   count-replaced (w ∷ s) h =
-      by-test (eqb w x)
+      cases (eqb w x)
       (λ e. rw e (omega (arith, count-append x ws (replaced x ws s), count-replaced s h)))
       (λ e. rw (e, e) (count-replaced s h))
 
@@ -115,7 +111,7 @@ module _ (x : ℕ) (ws : List ℕ) where
   unfolding before
   replaced-before [] = replaced-nil
   replaced-before (w ∷ s) =
-      by-test (eqb w x) (λ e. rw e replaced-nil)
+      cases (eqb w x) (λ e. rw e replaced-nil)
       (λ e. rw (e, replaced-cons, image-other w (eqb-false w x e)) (ap (λ (r : List ℕ). w ∷ r) (replaced-before s)))
 
 module _ (x : ℕ) where
@@ -134,7 +130,7 @@ module _ (x : ℕ) where
   unfolding clear
   clear-not [] i h e = absurd (omega arith)
   clear-not (w ∷ s) zero h e = rw (eq-eqb w x e)
-  clear-not (w ∷ s) (suc i) h e = by-test (eqb w x) (λ q. rw q) (λ q. rw q (clear-not s i (omega arith) e))
+  clear-not (w ∷ s) (suc i) h e = cases (eqb w x) (λ q. rw q) (λ q. rw q (clear-not s i (omega arith) e))
 
   -- ---- the words before the first x
 
@@ -147,24 +143,24 @@ module _ (x : ℕ) where
   unfolding clear before
   before-append [] t h = refl
   before-append (w ∷ s) t h =
-      by-test (eqb w x)
+      cases (eqb w x)
       (λ e. absurd (false≢true (rw e at h)))
       (λ e. rw e (ap (λ (r : List ℕ). w ∷ r) (before-append s t (rw e at h))))
 
   pub length-before : (s : List ℕ) → length (before x s) ≤ length s
   unfolding before
   length-before [] = omega arith
-  length-before (w ∷ s) = by-test (eqb w x) (λ e. rw e (omega arith)) (λ e. rw e (omega (arith, length-before s)))
+  length-before (w ∷ s) = cases (eqb w x) (λ e. rw e (omega arith)) (λ e. rw e (omega (arith, length-before s)))
 
   pub take-before : (s : List ℕ) → take (length (before x s)) s ≡ before x s
   unfolding before
   take-before [] = refl
-  take-before (w ∷ s) = by-test (eqb w x) (λ e. rw e) (λ e. rw e (ap (λ (r : List ℕ). w ∷ r) (take-before s)))
+  take-before (w ∷ s) = cases (eqb w x) (λ e. rw e) (λ e. rw e (ap (λ (r : List ℕ). w ∷ r) (take-before s)))
 
   -- where they end before the list does, an x stands
   pub getD-before : (s : List ℕ) → length (before x s) < length s → getD s (length (before x s)) 0 ≡ x
   unfolding before
   getD-before [] h = absurd (omega arith)
   getD-before (w ∷ s) h =
-      by-test (eqb w x) (λ e. rw e (eqb-true w x e))
+      cases (eqb w x) (λ e. rw e (eqb-true w x e))
       (λ e. let f : suc (length (before x s)) < suc (length s) = rw e at h in rw e (getD-before s (omega arith)))

@@ -12,7 +12,7 @@ use Rattle.text.specs.Text.{decimal}
 use Rattle.text.specs.Decimal.{last-digit, by-digits, decimal-digit, decimal-more, decimal-bytes, decimal-length}
 use Rattle.numerals.specs.Reading.{read, then-read}
 use Rattle.numerals.specs.Bytes.{byte}
-use Rattle.numerals.specs.Numbers.{digit, digits, number, between}
+use Rattle.numerals.specs.Numbers.{digit, digits, number, between, digit-below, digit-value, digit-above}
 use Rattle.roundtrip.specs.Suffix.{first-byte, after-byte, no-byte}
 
 -- what may follow a number: no digit
@@ -24,22 +24,10 @@ pub data Ends : List ℕ → Type 0 where
 abbrev pub Digits : List ℕ → Type 0
 Digits ds = All (λ b. (48 ≤ b) × (b < 58)) ds
 
-digit-value : (b : ℕ) → 48 ≤ b → b < 58 → digit b ≡ b - 48
-unfolding digit
-digit-value b l h = rw (le-ltb b 48 l, lt-ltb b 58 h)
-
-no-digit-below : (b : ℕ) → b < 48 → digit b ≡ 10
-unfolding digit
-no-digit-below b h = rw (lt-ltb b 48 h)
-
-no-digit-above : (b : ℕ) → 58 ≤ b → digit b ≡ 10
-unfolding digit
-no-digit-above b h = rw (le-ltb b 48 (omega arith), le-ltb b 58 h)
-
 pub no-digit : (s : List ℕ) (p : ℕ) (r : List ℕ) → Ends r → drop p s ≡ r → digit (byte s p) ≡ 10
-no-digit s p [] stops e = rw (no-byte s p e) (no-digit-above 256 (omega arith))
-no-digit s p (b ∷ r) (other h) e = rw (first-byte s p b r e) (no-digit-above b h)
-no-digit s p (b ∷ r) (early h) e = rw (first-byte s p b r e) (no-digit-below b h)
+no-digit s p [] stops e = rw (no-byte s p e) (digit-above 256 (omega arith))
+no-digit s p (b ∷ r) (other h) e = rw (first-byte s p b r e) (digit-above b h)
+no-digit s p (b ∷ r) (early h) e = rw (first-byte s p b r e) (digit-below b h)
 
 -- the value of digits after others of value v
 unfoldable value : ℕ → List ℕ → ℕ

@@ -14,6 +14,7 @@ use Rattle.terms.specs.Formed.{Formed}
 use Rattle.text.specs.Keys.{arities-key}
 use Rattle.text.specs.Text.{decimal, numbers, further-numbers, text, line}
 use Rattle.text.specs.Decimal.{decimal-bytes, decimal-some}
+use Rattle.text.specs.Sizes.{line-length}
 use Rattle.numerals.specs.Reading.{read, then-read}
 use Rattle.numerals.specs.Bytes.{byte}
 use Rattle.term_reader.specs.Terms.{whole-term}
@@ -32,10 +33,6 @@ line-apart : (key value r : List ℕ) → line key value ++ r ≡ key ++ (value 
 unfolding line
 line-apart key value r =
     append-assoc key (value ++ (10 ∷ [])) r ∙ ap (λ (l : List ℕ). key ++ l) (append-assoc value (10 ∷ []) r)
-
-line-length : (key value : List ℕ) → length (line key value) ≡ length key + length value + 1
-unfolding line
-line-length key value = omega (arith, length-append key (value ++ (10 ∷ [])), length-append value (10 ∷ []))
 
 -- a key and a number
 pub number-line : (key : List ℕ) (low high v : ℕ) (s : List ℕ) (p : ℕ) (r : List ℕ) → low ≤ v → v ≤ high → high < 100000 → drop p s ≡ line key (decimal v) ++ r

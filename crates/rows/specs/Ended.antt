@@ -8,7 +8,7 @@ use lib.ListN.{length, drop, getD, drop-of-length-le}
 use lib.Seq.{drop-cons}
 use Rattle.terms.specs.Bounds.{Bounds}
 use Rattle.terms.specs.Kind.{takes, Worded}
-use Rattle.terms.specs.Lists.{All, none, both}
+use Rattle.terms.specs.Lists.{All-units}
 use Rattle.terms.specs.Term.{Term, words, size}
 use Rattle.terms.specs.Formed.{Formed}
 use Rattle.terms.specs.Walk.{past}
@@ -77,10 +77,6 @@ pub term-end-words : {b : Bounds} {arities : List ℕ} {n : ℕ} → Worded b ar
     → term-end b arities (words b t ++ ws) ≡ size t
 unfolding ended
 term-end-words {b} {arities} worded {t} f ws =
-    past worded {P = λ w. Unit {0}} (ended b arities) (λ w vs d p u. refl) f (all-units (words b t)) ws 0 0
+    past worded {P = λ w. Unit {0}} (ended b arities) (λ w vs d p u. refl) f (All-units (words b t)) ws 0 0
     ∙ ended-none b arities ws (0 + size t)
     ∙ zero-add (size t)
-  where
-    all-units : (vs : List ℕ) → All (λ (w : ℕ). Unit {0}) vs
-    all-units [] = none
-    all-units (v ∷ vs) = both tt (all-units vs)

@@ -12,19 +12,19 @@ use Rattle.terms.specs.Bounds.{Bounds}
 use Rattle.terms.specs.Kind.{Worded}
 use Rattle.terms.specs.Term.{Term, words, size}
 use Rattle.terms.specs.Formed.{Equation, Formed}
-use Rattle.terms.specs.Answers.{binding-words}
+use Rattle.terms.specs.Answers.{binding-words, pile-words}
 use Rattle.terms.specs.Flat.{length-words}
 use Rattle.search.specs.State.{State, pend, size-equations, size-named, state-size}
 use Rattle.search.specs.Classify.{classify}
+use Rattle.search.specs.StateWords.{pending-words, state-words, length-pending, length-pile, length-bindings}
 use Rattle.rows.specs.declared.parts.Rest.{Rest}
 use Rattle.rows.specs.declared.first.First.{First}
 use Rattle.rows.specs.declared.first.Subject.{Subject}
 use Rattle.rows.specs.declared.header.Header.{Header}
 use Rattle.rows.specs.Ended.{term-end, term-end-words}
 use Rattle.rows.specs.Stepping.{unknown-word, step-of, step-of-words}
-use Rattle.rows.specs.Pile.{pile-words}
-use Rattle.rows.specs.States.{pending-words, body-words, length-pending, length-pile, length-bindings, pending-append}
-use Rattle.rows.specs.Row.{Holds, Rested, header-for, state-words}
+use Rattle.rows.specs.States.{pending-append}
+use Rattle.rows.specs.Row.{Holds, Rested, header-for, header-words}
 
 unfoldable pub first-in : Bounds → (arities ws : List ℕ) → First
 first-in b arities ws = record {
@@ -59,8 +59,8 @@ rest-after from h skip = record {
 
 -- ---- a row that holds a state
 
-pub header-in-words : (h : Header) → header-in (state-words h) ≡ h
-unfolding header-in state-words
+pub header-in-words : (h : Header) → header-in (header-words h) ≡ h
+unfolding header-in header-words
 header-in-words h = refl
 
 -- the words between others
@@ -98,7 +98,7 @@ module _ {b : Bounds} {l : List ℕ} {from : ℕ} {st : State} (H : Holds b l fr
   B = binding-words b (st .bindings)
 
   whole : seg l (from + 8) (state-size st) ≡ (D ++ E) ++ (P ++ B)
-  unfolding body-words
+  unfolding state-words
   whole = H .body ∙ rw (cut, pending-append b ds es)
 
   pub cut-sizes : size-equations (st .pending) ≡ size-equations ds + size-equations es

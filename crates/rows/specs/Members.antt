@@ -85,10 +85,3 @@ module _ {b : Bounds} {arities : List ℕ} {n : ℕ} (worded : Worded b arities 
   head-unknown formed-empty = within-before (b .first-unknown) (b .unknown-words) 0 (omega (arith, worded .proper .after-marks))
   head-unknown (formed-with f g) = within-before (b .first-unknown) (b .unknown-words) 1 (omega (arith, worded .proper .after-marks))
   head-unknown (formed-functor {k = k} h e f) = within-after (b .first-unknown) (b .unknown-words) (b .first-functor + k) (omega (arith, worded .proper .before-functors))
-
-  pub formed-kernel : {t : Term} → Formed arities n t → Formed arities n (kernel t)
-  unfolding kernel
-  formed-kernel (formed-unknown h) = formed-unknown h
-  formed-kernel formed-empty = formed-empty
-  formed-kernel (formed-with f g) = formed-kernel g
-  formed-kernel (formed-functor h e f) = formed-functor h e f

@@ -4,20 +4,17 @@ use Prim.Native.Nat.{ℕ, zero, suc, _+_}
 use mathlib.Core.Path.{_≡_, refl, ap, sym, _∙_}
 use mathlib.Core.List.{List, [], _∷_, _++_, append-assoc}
 use mathlib.Core.Bool.{Bool, true, false, not}
-use native.Mathlib.Omega.{arith}
 use native.Mathlib.Numerals.{add-one}
 use lib.Dec.{eqb}
-use borrow.Author.Tests.{eqb-true, eqb-false, ne-eqb, eq-eqb}
 use lib.ListN.{length, take, drop}
 use lib.Seq.{take-at, drop-at}
-use Rattle.room.specs.Replaced.{by-test}
 use Rattle.terms.specs.Bounds.{Bounds}
 use Rattle.terms.specs.Kind.{takes, Worded}
 use Rattle.terms.specs.Term.{words, size}
 use Rattle.terms.specs.Formed.{Formed}
-use Rattle.terms.specs.Answers.{Named}
-use Rattle.terms.specs.Lists.{All, none, both, any, or-neither}
-use Rattle.terms.specs.Flat.{length-words}
+use Rattle.terms.specs.Answers.{Named, pile-words}
+use Rattle.terms.specs.Lists.{All, none, both, any, or-neither, cases}
+use Rattle.terms.specs.Flat.{length-words, eqb-shift}
 use Rattle.search.specs.Children.{entries, others}
 use Rattle.rows.specs.declared.parts.Part.{Part}
 use Rattle.rows.specs.declared.parts.Part.the-variants.{Entries, Others}
@@ -111,11 +108,6 @@ others-absent b arities x ws h = sym (selected-start b arities Others x true ws)
 
 -- ---- the pile's trees
 
--- an entry X = t is held as the words of X and of t
-unfoldable pub pile-words : Bounds → List Named → List ℕ
-pile-words b [] = []
-pile-words b (n ∷ ns) = (b .first-unknown + n .name) ∷ (words b (n .value) ++ pile-words b ns)
-
 pub pile-append : (b : Bounds) (ms ns : List Named) → pile-words b (ms ++ ns) ≡ pile-words b ms ++ pile-words b ns
 unfolding pile-words
 pile-append b [] ns = refl
@@ -127,18 +119,12 @@ chosen Entries x ns = entries x ns
 chosen Others x ns = others x ns
 
 module _ {b : Bounds} {arities : List ℕ} {k : ℕ} (worded : Worded b arities k) (x : ℕ) where
-  same-name : (i : ℕ) → eqb (b .first-unknown + i) (b .first-unknown + x) ≡ eqb i x
-  same-name i =
-      by-test (eqb i x)
-      (λ t. rw t (eq-eqb _ _ (ap (λ j. b .first-unknown + j) (eqb-true i x t))))
-      (λ f. rw f (ne-eqb (b .first-unknown + i) (b .first-unknown + x) (λ e. eqb-false i x f (omega arith))))
-
   -- the first entry's words, where it is wanted, before those of the others
   chosen-entry : (part : Part) (n : Named) (ns : List Named)
       → pile-words b (chosen part x (n ∷ ns)) ≡ kept (wants part (b .first-unknown + n .name) (b .first-unknown + x)) ((b .first-unknown + n .name) ∷ words b (n .value)) ++ pile-words b (chosen part x ns)
   unfolding chosen entries others pile-words wants kept
-  chosen-entry Entries n ns = rw (same-name (n .name)) (by-test (eqb (n .name) x) (λ t. rw t) (λ f. rw f))
-  chosen-entry Others n ns = rw (same-name (n .name)) (by-test (eqb (n .name) x) (λ t. rw t) (λ f. rw f))
+  chosen-entry Entries n ns = rw (eqb-shift (b .first-unknown) (n .name) x) (cases (eqb (n .name) x) (λ t. rw t) (λ f. rw f))
+  chosen-entry Others n ns = rw (eqb-shift (b .first-unknown) (n .name) x) (cases (eqb (n .name) x) (λ t. rw t) (λ f. rw f))
 
   pub selection-pile : (part : Part) {ns : List Named} → All (λ n. Formed arities k (n .value)) ns
       → selection b arities part (b .first-unknown + x) (pile-words b ns) ≡ pile-words b (chosen part x ns)

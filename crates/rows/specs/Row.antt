@@ -10,17 +10,16 @@ use lib.ListN.{length, take, drop, length-append}
 use borrow.Author.Tests.{le-ltb, leb-true}
 use Rattle.room.specs.Room.{seg, put, Within, length-put, length-seg, seg-append, seg-put-same, take-seg, drop-seg}
 use Rattle.room.specs.Parts.{Apart, earlier, later, seg-put}
-use Rattle.room.specs.Replaced.{by-test}
 use Rattle.terms.specs.Bounds.{Bounds}
-use Rattle.terms.specs.Answers.{binding-words}
+use Rattle.terms.specs.Answers.{binding-words, pile-words}
+use Rattle.terms.specs.Lists.{cases}
 use Rattle.search.specs.State.{State, Node, dead, live, size-equations, size-named, state-size}
+use Rattle.search.specs.StateWords.{pending-words, state-words, length-state}
 use Rattle.rows.specs.declared.parts.Rest.{Rest}
 use Rattle.rows.specs.declared.parts.Made.{Made}
 use Rattle.rows.specs.declared.parts.Made.the-variants.{Dead, Names, Large, Live}
 use Rattle.rows.specs.declared.header.Header.{Header}
 use Rattle.rows.specs.Header.{header-of}
-use Rattle.rows.specs.Pile.{pile-words}
-use Rattle.rows.specs.States.{pending-words, body-words, length-body}
 use Rattle.rows.specs.Finished.{Finished, made, finished-length}
 
 -- the numbers of a state's header
@@ -34,13 +33,13 @@ header-for st = record {
 }
 
 -- the words of the header that tell of the state, and those that tell of its children: the next child's number, low and high, and the mark
-unfoldable pub state-words : Header → List ℕ
-state-words h = h .pending ∷ h .pile ∷ h .body ∷ h .bindings ∷ h .next ∷ []
+unfoldable pub header-words : Header → List ℕ
+header-words h = h .pending ∷ h .pile ∷ h .body ∷ h .bindings ∷ h .next ∷ []
 
 pub record Holds (b : Bounds) (l : List ℕ) (at : ℕ) (st : State) : Type 0 where
   pub within : Within l at (8 + state-size st)
-  pub header : seg l at 5 ≡ state-words (header-for st)
-  pub body : seg l (at + 8) (state-size st) ≡ body-words b st
+  pub header : seg l at 5 ≡ header-words (header-for st)
+  pub body : seg l (at + 8) (state-size st) ≡ state-words b st
 
 -- no child of it was made
 pub record Fresh (b : Bounds) (l : List ℕ) (at : ℕ) (st : State) : Type 0 where
@@ -94,7 +93,7 @@ finished-beside {to = to} {written = written} F =
 live-made : (lent size : ℕ) → made lent size ≡ Live → size ≤ lent
 unfolding made
 live-made lent size e =
-    by-test (leb size lent) (λ t. leb-true size lent t)
+    cases (leb size lent) (λ t. leb-true size lent t)
     (λ f. let g : _≡_ {A = Made} Large Live = rw f at e in let z : _≡_ {A = ℕ} 0 1 = cc in absurd (omega arith))
 
 same-state : (s t : State) → _≡_ {A = Node} (live s) (live t) → s ≡ t
@@ -102,10 +101,10 @@ same-state s t e = cc
 
 module _ (b : Bounds) (st : State) {r₀ : List ℕ} {to written lent : ℕ} (new : List ℕ) {piece : List ℕ} {a : Made} {r : List ℕ}
     (F : Finished r₀ to written lent piece (header-of (header-for st)) a r) (room : to + 8 + lent ≤ length r₀) (h : written ≤ lent)
-    (there : seg r₀ (to + 8) written ≡ new) (all : new ++ piece ≡ body-words b st) (few : st .next ≤ b .path-unknowns) where
+    (there : seg r₀ (to + 8) written ≡ new) (all : new ++ piece ≡ state-words b st) (few : st .next ≤ b .path-unknowns) where
   size-is : written + length piece ≡ state-size st
   size-is =
-      omega (arith, length-append new piece, ap length there, length-seg r₀ (to + 8) written (omega arith), ap length all, length-body b st)
+      omega (arith, length-append new piece, ap length there, length-seg r₀ (to + 8) written (omega arith), ap length all, length-state b st)
 
   -- the whole row, where it is written
   whole : a ≡ Live → r ≡ put (put r₀ (to + 8 + written) piece) to (header-of (header-for st))
@@ -115,7 +114,7 @@ module _ (b : Bounds) (st : State) {r₀ : List ℕ} {to written lent : ℕ} (ne
       F .room ∙ rw (w .0, w .1)
 
   fresh : a ≡ Live → Fresh b r to st
-  unfolding header-of state-words
+  unfolding header-of header-words
   fresh e =
       let l = live-made lent (written + length piece) (sym (F .tells) ∙ e) in
       let s = size-is in

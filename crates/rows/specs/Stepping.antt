@@ -7,13 +7,14 @@ use native.Mathlib.Omega.{arith}
 use lib.Dec.{eqb}
 use lib.ListN.{getD}
 use borrow.Author.Tests.{eq-eqb, ne-eqb, eqb-true, eqb-false}
-use Rattle.room.specs.Replaced.{by-test}
 use Rattle.terms.specs.Bounds.{Bounds}
 use Rattle.terms.specs.Kind.{within, Worded}
-use Rattle.terms.specs.Lists.{any}
+use Rattle.terms.specs.Lists.{any, cases}
 use Rattle.terms.specs.Term.{Term, unknown, words, members, kernel, occurs}
 use Rattle.terms.specs.Shape.{is-unknown, number}
 use Rattle.terms.specs.Formed.{Formed, formed-unknown, formed-empty, formed-with, formed-functor}
+use Rattle.terms.specs.Members.{formed-kernel}
+use Rattle.terms.specs.Flat.{eqb-shift}
 use Rattle.walks.specs.declared.occurrence.Occurrence.{Occurrence}
 use Rattle.walks.specs.declared.occurrence.Occurrence.the-variants.{Absent, Tail, Inside}
 use Rattle.walks.specs.Occurrence.{in-rest, in-rest-occurrence, occurrence-by}
@@ -22,9 +23,8 @@ use Rattle.search.specs.declared.steps.Tails.the-variants.{Different}
 use Rattle.search.specs.declared.steps.Step.{Step}
 use Rattle.search.specs.declared.steps.Step.the-variants.{Drop, Bind, Postpone, Decompose, Split, Dead}
 use Rattle.search.specs.Classify.{tails-by, tails, only-tail, meet-by, meet, classify}
-use Rattle.rows.specs.Flat.{eqb-unknown}
 use Rattle.rows.specs.Stripped.{kernel-at, kernel-at-words, kernel-place}
-use Rattle.rows.specs.Members.{head-word, head-words, head-kernel, head-unknown, formed-kernel}
+use Rattle.rows.specs.Members.{head-word, head-words, head-kernel, head-unknown}
 
 unfoldable pub unknown-word : Bounds → ℕ → Bool
 unknown-word b w = within (b .first-unknown) (b .unknown-words) w
@@ -86,7 +86,7 @@ module _ {b : Bounds} {arities : List ℕ} {n : ℕ} (worded : Worded b arities 
   same-heads : {s r : Term} → Formed arities n s → Formed arities n r
       → tails-by (is-unknown s) (is-unknown r) (eqb (head-word b s) (head-word b r)) ≡ tails-by (is-unknown s) (is-unknown r) (eqb (number s) (number r))
   unfolding tails-by is-unknown number head-word
-  same-heads (formed-unknown {i = i} f) (formed-unknown {i = j} g) = ap (tails-by true true) (eqb-unknown (worded .proper) (omega (arith, worded .unknowns)) i)
+  same-heads (formed-unknown {i = i} f) (formed-unknown {i = j} g) = ap (tails-by true true) (eqb-shift (b .first-unknown) i j)
   same-heads (formed-unknown f) formed-empty = refl
   same-heads (formed-unknown f) (formed-with g k) = refl
   same-heads (formed-unknown f) (formed-functor g e k) = refl
@@ -118,23 +118,22 @@ module _ {b : Bounds} {arities : List ℕ} {n : ℕ} (worded : Worded b arities 
   left-unknown : {x : ℕ} → x < n → {u : Term} → Formed arities n u
       → meet-words b arities (b .first-unknown + x) (words b u) (tails-of b (b .first-unknown + x) (kernel-word b arities (words b u))) ≡ meet x u (tails (unknown x) u)
   unfolding head-word tails kernel
-  left-unknown {x} h {u} g = rw (kernel-word-term g, tails-of-heads (formed-unknown h) (formed-kernel worded g)) (meet-term h g _)
+  left-unknown {x} h {u} g = rw (kernel-word-term g, tails-of-heads (formed-unknown h) (formed-kernel g)) (meet-term h g _)
 
   right-unknown : {y : ℕ} → y < n → {t : Term} → Formed arities n t
       → meet-words b arities (b .first-unknown + y) (words b t) (tails-of b (kernel-word b arities (words b t)) (b .first-unknown + y)) ≡ meet y t (tails t (unknown y))
   unfolding head-word tails kernel
-  right-unknown {y} h {t} f = rw (kernel-word-term f, tails-of-heads (formed-kernel worded f) (formed-unknown h)) (meet-term h f _)
+  right-unknown {y} h {t} f = rw (kernel-word-term f, tails-of-heads (formed-kernel f) (formed-unknown h)) (meet-term h f _)
 
   two-unknowns : (x : ℕ) {y : ℕ} → y < n → cond (eqb (b .first-unknown + x) (b .first-unknown + y)) Drop (Bind Different) ≡ classify (unknown x) (unknown y)
   unfolding classify meet meet-by occurs
   two-unknowns x {y} h =
-      let l : y < b .unknown-words = omega (arith, worded .unknowns) in
-      rw (eqb-unknown (worded .proper) l x)
-      (by-test (eqb x y) (λ e. rw e) (λ e. rw (e, ne-eqb y x (λ q. eqb-false x y e (sym q)))))
+      rw (eqb-shift (b .first-unknown) x y)
+      (cases (eqb x y) (λ e. rw e) (λ e. rw (e, ne-eqb y x (λ q. eqb-false x y e (sym q)))))
 
   functors : (k j : ℕ) (s : Step) → cond (eqb (b .first-functor + k) (b .first-functor + j)) (cond (eqb (b .first-functor + k) 0) Drop (cond (eqb (b .first-functor + k) 1) s Decompose)) Dead ≡ cond (eqb k j) Decompose Dead
   functors k j s =
-      by-test (eqb k j)
+      cases (eqb k j)
       (λ e. rw (e, eq-eqb (b .first-functor + k) (b .first-functor + j) (ap (λ (i : ℕ). b .first-functor + i) (eqb-true k j e)), ne-eqb (b .first-functor + k) 0 (λ q. omega (arith, worded .proper .after-marks, worded .proper .before-functors)), ne-eqb (b .first-functor + k) 1 (λ q. omega (arith, worded .proper .after-marks, worded .proper .before-functors))))
       (λ e. rw (e, ne-eqb (b .first-functor + k) (b .first-functor + j) (λ q. eqb-false k j e (omega arith))))
 
@@ -143,7 +142,7 @@ module _ {b : Bounds} {arities : List ℕ} {n : ℕ} (worded : Worded b arities 
 
   two-sets : {t u : Term} → Formed arities n t → Formed arities n u → tails-of b (kernel-word b arities (words b t)) (kernel-word b arities (words b u)) ≡ tails t u
   unfolding tails
-  two-sets f g = rw (kernel-word-term f, kernel-word-term g) (tails-of-heads (formed-kernel worded f) (formed-kernel worded g))
+  two-sets f g = rw (kernel-word-term f, kernel-word-term g) (tails-of-heads (formed-kernel f) (formed-kernel g))
 
   by-kinds : {t u : Term} → Formed arities n t → Formed arities n u → step-by (is-unknown t) (is-unknown u) b arities (words b t) (words b u) ≡ classify t u
   unfolding step-by is-unknown classify words compare-words

@@ -9,10 +9,9 @@ use lib.Dec.{eqb}
 use lib.ListN.{length, drop, getD, drop-of-length-le}
 use lib.Seq.{drop-cons}
 use borrow.Author.Tests.{eq-eqb, ne-eqb}
-use Rattle.room.specs.Replaced.{by-test}
 use Rattle.terms.specs.Bounds.{Bounds}
 use Rattle.terms.specs.Kind.{takes, Worded}
-use Rattle.terms.specs.Lists.{All, none, both}
+use Rattle.terms.specs.Lists.{cases, All-units}
 use Rattle.terms.specs.Term.{Term, unknown, empty, with, functor, words, words*, size}
 use Rattle.terms.specs.Formed.{Formed, formed-unknown, formed-empty, formed-with, formed-functor}
 use Rattle.terms.specs.Walk.{past}
@@ -39,7 +38,7 @@ module _ (b : Bounds) (arities : List ℕ) where
   stripped-within [] due place = omega arith
   stripped-within (w ∷ ws) zero place =
       let h = stripped-within ws 1 (place + 1) in
-      by-test (eqb w 1) (λ t. rw t (omega arith)) (λ f. rw f (omega arith))
+      cases (eqb w 1) (λ t. rw t (omega arith)) (λ f. rw f (omega arith))
   stripped-within (w ∷ ws) (suc due) place = omega (arith, stripped-within ws (due + takes b arities w) (place + 1))
 
   -- ---- as the code walks
@@ -70,10 +69,6 @@ module _ (b : Bounds) (arities : List ℕ) where
         rw (e, drop-cons ws place 0 h, f)
 
 module _ {b : Bounds} {arities : List ℕ} {n : ℕ} (worded : Worded b arities n) where
-  all-units : (vs : List ℕ) → All (λ (w : ℕ). Unit {0}) vs
-  all-units [] = none
-  all-units (v ∷ vs) = both tt (all-units vs)
-
   stops : (w : ℕ) (ws : List ℕ) (place : ℕ) → (w ≡ 1 → ⊥) → stripped b arities (w ∷ ws) 0 place ≡ place + 0
   unfolding stripped
   stops w ws place e = rw (ne-eqb w 1 e) (omega arith)
@@ -84,7 +79,7 @@ module _ {b : Bounds} {arities : List ℕ} {n : ℕ} (worded : Worded b arities 
   stripped-words formed-empty ws place = omega arith
   stripped-words (formed-with {m = m} {r = r} f g) ws place =
       rw (append-assoc (words b m) (words b r) ws)
-      (past worded {P = λ w. Unit {0}} (stripped b arities) (λ w vs d p u. refl) f (all-units (words b m)) (words b r ++ ws) 0 (place + 1)
+      (past worded {P = λ w. Unit {0}} (stripped b arities) (λ w vs d p u. refl) f (All-units (words b m)) (words b r ++ ws) 0 (place + 1)
       ∙ stripped-words g ws (place + 1 + size m)
       ∙ omega arith)
   stripped-words (formed-functor {k = k} {ts = ts} h e f) ws place = stops (b .first-functor + k) (words* b ts ++ ws) place (λ e. omega (arith, worded .proper .after-marks, worded .proper .before-functors))

@@ -1,9 +1,9 @@
 -- From a check that is fine to what the comparison starts from, and from what it tells to the answer: for a row of two ground terms, and for a question
 -- with a row of values.
 use Prim.Native.Nat.{ℕ, _+_, _*_, _≤_}
-use mathlib.Core.Path.{_≡_, refl, ap, ap₂, sym, _∙_}
-use mathlib.Core.List.{List, [], _∷_, _++_}
-use mathlib.Core.Bool.{Bool, true, false, _&&_}
+use mathlib.Core.Path.{_≡_, ap, ap₂, sym, _∙_}
+use mathlib.Core.List.{List, [], _++_}
+use mathlib.Core.Bool.{and-true}
 use native.Mathlib.Omega.{arith}
 use native.Mathlib.Nat.{zero-add}
 use lib.ListN.{length, take, drop, length-append}
@@ -12,7 +12,7 @@ use Rattle.room.specs.Room.{seg, put, put-put, seg-put-same}
 use Rattle.terms.specs.Bounds.{edition-one, edition-one-proper}
 use Rattle.checks.specs.Check.{check-question, check-row}
 use Rattle.terms.specs.Formed.{Equation, sides}
-use Rattle.checks.specs.Lent.{Row, Asked, table-worded, good-worded, check-row-ground, check-question-asked}
+use Rattle.checks.specs.Lent.{Row, Asked, table-worded, good-worded, check-row-ground, check-question-asked, length-sides}
 use Rattle.checks.specs.Pushed.{formed-top, formed-drop}
 use Rattle.terms.specs.Reading.{read, top, question-of}
 use Rattle.terms.specs.declared.refusal.Checked.the-variants.{Fine}
@@ -22,10 +22,6 @@ use Rattle.places.specs.Places.{terms-from, held, values, Placed}
 use Rattle.places.specs.Opened.{value-ground}
 use Rattle.holding.specs.Holding.{holding, Equations, WithValues}
 use Rattle.holding.proofs.Asking.{from-first, from-values, holding-solves}
-
-and-true : (b : Bool) → (b && true) ≡ b
-and-true true = refl
-and-true false = refl
 
 -- ---- two ground terms
 
@@ -93,11 +89,6 @@ module _ (n : ℕ) (arities : List ℕ) (e : ℕ) (words row : List ℕ) (fine :
 
   es : List Equation
   es = question-of edition-one n arities words .equations
-
-  length-sides : (ds : List Equation) → length (sides ds) ≡ 2 * length ds
-  unfolding sides
-  length-sides [] = refl
-  length-sides (d ∷ ds) = omega (arith, length-sides ds)
 
   question-with-values : WithValues edition-one arities (words ++ row) n (length words) e
   unfolding es question-of

@@ -1,8 +1,11 @@
 pub mod Ends
 pub mod Lent
 pub mod State
+pub mod StateWords
 pub mod Classify
 pub mod Children
+pub mod Entries
 pub mod StepView
 pub mod Run
+pub mod Verdicts
 pub mod Specimens

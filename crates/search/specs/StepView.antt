@@ -8,7 +8,7 @@ use lib.Dec.{eqb}
 use borrow.Author.Tests.{eqb-false, eqb-true, not-true}
 use Rattle.terms.specs.Lists.{All, Any, none, both, any, any→, or-neither, and-left, and-right, and-both, cases}
 use Rattle.terms.specs.Term.{Term, Terms, unknown, empty, with, functor, occurs, members, kernel}
-use Rattle.terms.specs.Shape.{is-unknown, number}
+use Rattle.terms.specs.Shape.{is-unknown, number, unknown-number}
 use Rattle.search.specs.declared.steps.Tails.{Tails}
 use Rattle.search.specs.declared.steps.Tails.the-variants.{Neither, Left, Right, Different, Same}
 use Rattle.search.specs.declared.steps.Step.{Step}
@@ -81,13 +81,6 @@ occurs-where x (unknown i) e f = e
 occurs-where x empty e f = e
 occurs-where x (with m r) e f = let p = or-neither (occurs x m) (any (occurs x) (members r)) f in occurs-where x r (rw (p .0) at e) (p .1)
 occurs-where x (functor k ts) e f = e
-
-unknown-number : (s : Term) → is-unknown s ≡ true → s ≡ unknown (number s)
-unfolding is-unknown number
-unknown-number (unknown i) e = refl
-unknown-number empty e = cc
-unknown-number (with m r) e = cc
-unknown-number (functor k ts) e = cc
 
 pub tail-only : (x : ℕ) (t : Term) → only-tail x t ≡ true → Tail-only x t
 unfolding only-tail

@@ -5,7 +5,6 @@ use mathlib.Core.Path.{_≡_, sym, ap, _∙_}
 use mathlib.Core.Bool.{true, false, cond}
 use mathlib.Core.List.{List, _∷_}
 use native.Mathlib.Omega.{arith}
-use Rattle.room.specs.Replaced.{by-test}
 use Rattle.search.specs.declared.limits.Limits.{Limits}
 use Rattle.rows.specs.declared.parts.Made.the-variants.{Live}
 use Rattle.results.specs.declared.ran.Record.{Record}
@@ -17,6 +16,7 @@ use Rattle.children.specs.Looking.{Looking}
 use Rattle.visits.specs.Visiting.{most-of}
 use Rattle.search_loop.specs.Running.{Given, Running, scratch-of}
 use Rattle.search_loop.proofs.Standing.{rows-above, ready}
+use Rattle.terms.specs.Lists.{cases}
 
 module _ {arities : List ℕ} {limits : Limits} {l a : List ℕ} {level shown : ℕ} {r : Record} {to : Given} (R : Running arities limits l a level shown r to) where
   abbrev at : ℕ
@@ -36,11 +36,11 @@ module _ {arities : List ℕ} {limits : Limits} {l a : List ℕ} {level shown : 
         (desk-above (R .desk) (λ e. let t = own (e ∙ ap (λ (n : ℕ). n + 1) (R .levels)) in let z : _≡_ {A = ℕ} 0 1 = cc in omega arith))
 
     pub open-then-spent : Desk l₁ (limits .size) (scratch-of limits) (R .above) (cond (x .opens) 0 shown)
-    open-then-spent = by-test (x .opens) (λ t. rw t nothing-open) (λ f. rw f (still-open f))
+    open-then-spent = cases (x .opens) (λ t. rw t nothing-open) (λ f. rw f (still-open f))
 
     pub open-then-live : {k : ℕ} → x .next ≡ Found k Live
         → Desk l₁ (limits .size) (scratch-of limits) (record { state = R .top .state; child = suc (R .top .child + k) } ∷ R .above) (cond (x .opens) (level + 1) shown)
     open-then-live {k} e =
-        by-test (x .opens)
+        cases (x .opens)
         (λ t. rw (t, sym (R .levels)) (open-here {o = record { state = R .top .state; child = suc (R .top .child + k) }} (record { last = R .top .child + k; after = omega arith; shown = L .opens t .shown k e })))
         (λ f. rw f (open-above (still-open f)))

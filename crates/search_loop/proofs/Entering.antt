@@ -9,19 +9,17 @@ use lib.Dec.{leb}
 use lib.ListN.{length, drop, length-append}
 use borrow.Author.Tests.{leb-true, leb-false}
 use Rattle.room.specs.Room.{seg, put, length-put, put-put, put-nil}
-use Rattle.room.specs.Replaced.{by-test}
 use Rattle.terms.specs.Bounds.{edition-one}
-use Rattle.terms.specs.Lists.{All, none, both}
-use Rattle.terms.specs.Answers.{listed}
+use Rattle.terms.specs.Lists.{All, none, both, cases}
+use Rattle.terms.specs.Answers.{listed, listed-append}
 use Rattle.search.specs.declared.ends.End.the-variants.{Space}
 use Rattle.search.specs.declared.limits.Limits.{Limits}
 use Rattle.search.specs.State.{State, Node, live, state-size}
 use Rattle.search.specs.Children.{children}
 use Rattle.search.specs.Run.{Visit, visit, Outcome, Answer, silent, states, found, found-size, overflows, goes-on, verdict}
 use Rattle.promises.specs.States.Orderly.{Orderly}
-use Rattle.promises.specs.Runs.Lending.{listed-append}
 use Rattle.promises.specs.Runs.Tree.{orderly-children}
-use Rattle.promises.specs.Runs.Verdicts.{allowed}
+use Rattle.search.specs.Verdicts.{allowed}
 use Rattle.promises.specs.Runs.Visiting.{Live as Is-live, is-live}
 use Rattle.turns.specs.Going.{Open, resumed, left, to-come, run-goes-on, run-overflows}
 use Rattle.rows.specs.declared.parts.Made.the-variants.{Live}
@@ -244,7 +242,7 @@ module _ {arities : List ℕ} {limits : Limits} {l a : List ℕ} {level shown : 
   unfolding node-room node-answers node-turn noted-turn note-by held-by fits found-size with-answers
   turned-open D =
       rw answer
-      (by-test (leb (length (listed (found edition-one (v .answer)))) (length a - r .words))
+      (cases (leb (length (listed (found edition-one (v .answer)))) (length a - r .words))
       (λ t. rw t (goes {deeper = level + 1} {more = more limits (counted r k) a v deeper} (goes-below D (leb-true _ _ t)) (omega arith)))
       (λ f. rw f (ends (overflowed (leb-false _ _ f)))))
 

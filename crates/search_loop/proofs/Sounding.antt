@@ -1,12 +1,12 @@
 -- A state in order, over a table of arities and with few enough unknowns, is sound: its equations and its pile are formed over its unknowns.
-use Prim.Native.Nat.{ℕ, _≤_, _<_}
+use Prim.Native.Nat.{ℕ, _≤_}
 use mathlib.Core.List.{List}
 use Rattle.terms.specs.Bounds.{edition-one}
 use Rattle.checks.specs.Lent.{Table}
 use Rattle.terms.specs.Lists.{All, none, both, All-map}
-use Rattle.terms.specs.Term.{unknown}
-use Rattle.terms.specs.Formed.{Formed, formed-unknown, Equation, sides}
+use Rattle.terms.specs.Formed.{Formed, Equation, sides}
 use Rattle.terms.specs.Answers.{Named}
+use Rattle.terms.specs.Members.{unknown-below}
 use Rattle.search.specs.State.{State}
 use Rattle.promises.specs.States.Orderly.{Orderly, Usable-sides}
 use Rattle.binding.specs.At.{Sound}
@@ -15,9 +15,6 @@ sides-formed : {arities : List ℕ} {n : ℕ} {bs : List Named} {es : List Equat
 unfolding sides
 sides-formed none = none
 sides-formed (both u us) = both (u .left .formed) (both (u .right .formed) (sides-formed us))
-
-unknown-below : {arities : List ℕ} {n x : ℕ} → Formed arities n (unknown x) → x < n
-unknown-below (formed-unknown h) = h
 
 pub sound : {arities : List ℕ} {st : State} → Table edition-one arities → st .next ≤ edition-one .path-unknowns → Orderly arities st → Sound arities st
 unfolding edition-one

@@ -8,8 +8,8 @@ use lib.Dec.{leb}
 use lib.ListN.{length, drop}
 use borrow.Author.Tests.{leb-true, leb-false}
 use Rattle.room.specs.Parts.{row-within}
-use Rattle.room.specs.Replaced.{by-test}
 use Rattle.terms.specs.Bounds.{edition-one}
+use Rattle.terms.specs.Lists.{cases}
 use Rattle.search.specs.declared.limits.Limits.{Limits}
 use Rattle.search.specs.State.{Node}
 use Rattle.search.specs.Children.{children}
@@ -32,18 +32,18 @@ rows-above (a-row R Rs) = Rs
 
 pub most-few : (limits : Limits) (level : ℕ) (r : Record) → most-of limits level r ≤ limits .steps - r .visited
 unfolding most-of
-most-few limits level r = by-test (leb (limits .depth) level) (λ t. rw t (omega arith)) (λ f. rw f (omega arith))
+most-few limits level r = cases (leb (limits .depth) level) (λ t. rw t (omega arith)) (λ f. rw f (omega arith))
 
 pub most-deep : (limits : Limits) (level : ℕ) (r : Record) → 0 < most-of limits level r → level < limits .depth
 unfolding most-of
 most-deep limits level r =
-    by-test (leb (limits .depth) level) (λ t h. let z : 0 < 0 = rw t at h in absurd (omega arith)) (λ f h. leb-false (limits .depth) level f)
+    cases (leb (limits .depth) level) (λ t h. let z : 0 < 0 = rw t at h in absurd (omega arith)) (λ f h. leb-false (limits .depth) level f)
 
 -- within the lent depth, the steps that are left
 pub most-left : (limits : Limits) (level : ℕ) (r : Record) → level < limits .depth → most-of limits level r ≡ limits .steps - r .visited
 unfolding most-of
 most-left limits level r h =
-    by-test (leb (limits .depth) level) (λ t. let g = leb-true (limits .depth) level t in absurd (omega arith)) (λ f. rw f)
+    cases (leb (limits .depth) level) (λ t. let g = leb-true (limits .depth) level t in absurd (omega arith)) (λ f. rw f)
 
 pub needed-small : (limits : Limits) → limits .depth ≤ 1024 → limits .size ≤ 8192 → needed limits ≤ 8462400
 unfolding needed

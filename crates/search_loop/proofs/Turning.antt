@@ -8,9 +8,9 @@ use lib.Dec.{leb}
 use lib.ListN.{length, drop}
 use borrow.Author.Tests.{leb-true, leb-false, ne-eqb}
 use Rattle.room.specs.Room.{put-nil}
-use Rattle.room.specs.Replaced.{by-test}
 use Rattle.terms.specs.Bounds.{edition-one}
 use Rattle.terms.specs.Answers.{listed}
+use Rattle.terms.specs.Lists.{cases}
 use Rattle.search.specs.declared.ends.End.{End as How}
 use Rattle.search.specs.declared.ends.End.the-variants.{Done, Steps, Depth}
 use Rattle.search.specs.declared.limits.Limits.{Limits}
@@ -60,13 +60,13 @@ pub due-stops : (limits : Limits) (level : ℕ) (r : Record) (a : List ℕ) (k :
     → given (counted r k) a (remains limits (counted r k) (length a) (v ∷ vs)) ≡ record { ending = due-ending limits (counted r k); answers = a }
 unfolding due-ending left loan
 due-stops limits level r a k v vs d h s =
-    by-test (leb (limits .steps) (r .visited + k))
+    cases (leb (limits .steps) (r .visited + k))
     (λ t.
     let g = leb-true (limits .steps) (r .visited + k) t in
     rw t (stops-here limits (counted r k) a v vs Steps (spent-stops edition-one (left (loan limits (length a)) (r .visited + k) (r .words)) v (omega arith))))
     (λ f.
     let g = leb-false (limits .steps) (r .visited + k) f in
-    let deep : limits .depth ≤ level = by-test (leb (limits .depth) level) (λ y. leb-true (limits .depth) level y)
+    let deep : limits .depth ≤ level = cases (leb (limits .depth) level) (λ y. leb-true (limits .depth) level y)
     (λ n. let m = most-left limits level r (leb-false (limits .depth) level n) in absurd (omega arith)) in
     rw f (stops-here limits (counted r k) a v vs Depth (deep-stops edition-one (left (loan limits (length a)) (r .visited + k) (r .words)) v (omega arith) (omega arith))))
 

@@ -13,7 +13,7 @@ use Rattle.search.specs.declared.ends.End.the-variants.{Steps, Depth, Names, Si
 use Rattle.search.specs.State.{State, Node}
 use Rattle.search.specs.Children.{children}
 use Rattle.search.specs.Run.{Visit, dead-visit, Loan, found, found-size, stops, overflows, ends, verdict, scan}
-use Rattle.promises.specs.Runs.Verdicts.{Allows, allowed}
+use Rattle.search.specs.Verdicts.{Allows, allowed}
 use Rattle.turns.specs.Going.{resumed, left, Open, to-come, to-come-dead, run-goes-on}
 use Rattle.turns.specs.Numbers.{drop-next}
 use Rattle.only_child.specs.Next.{dead-ends}

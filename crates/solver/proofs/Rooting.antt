@@ -10,17 +10,16 @@ use Rattle.room.specs.Parts.{later, seg-put}
 use Rattle.terms.specs.Bounds.{edition-one}
 use Rattle.terms.specs.Formed.{Question}
 use Rattle.terms.specs.Reading.{question-of}
-use Rattle.terms.specs.Answers.{binding-words}
+use Rattle.terms.specs.Answers.{binding-words, pile-words}
 use Rattle.search.specs.declared.ends.End.the-variants.{Steps, Size}
 use Rattle.search.specs.declared.limits.Limits.{Limits}
 use Rattle.search.specs.State.{size-equations, size-named, state-size}
 use Rattle.search.specs.Run.{Visit, visit, root, ran}
+use Rattle.search.specs.StateWords.{pending-words, state-words, length-pending}
 use Rattle.promises.specs.Runs.Tree.{start, start-orderly}
 use Rattle.turns.specs.Going.{left, resumed-none, left-none, to-come, to-come-root}
 use Rattle.rows.specs.Header.{header-of}
-use Rattle.rows.specs.Pile.{pile-words}
-use Rattle.rows.specs.States.{pending-words, body-words, length-pending}
-use Rattle.rows.specs.Row.{Fresh, header-for, state-words}
+use Rattle.rows.specs.Row.{Fresh, header-for, header-words}
 use Rattle.search_loop.specs.Passing.{spent-stops, large-stops}
 use Rattle.results.specs.Loans.{loan, ending}
 use Rattle.results.specs.Result.{gives}
@@ -46,8 +45,8 @@ module _ {unknowns : ℕ} {arities ws : List ℕ} {limits : Limits} {l : List �
   unfolding header-for size-named question-of
   root-header = rw (root-size, words-size)
 
-  root-body : body-words edition-one (start q) ≡ ws
-  unfolding body-words pending-words pile-words binding-words
+  root-body : state-words edition-one (start q) ≡ ws
+  unfolding state-words pending-words pile-words binding-words
   root-body = append-nil _ ∙ A .worded
 
   few : q .unknowns ≤ edition-one .path-unknowns
@@ -77,7 +76,7 @@ module _ {unknowns : ℕ} {arities ws : List ℕ} {limits : Limits} {l : List �
     top = rw root-header (seg-put-same (header-of (record { pending = length ws; pile = 0; body = length ws; bindings = 0; next = unknowns })) first 0 (rw (length-put l 8 ws) (omega (arith, room-for))))
 
     fresh : Fresh edition-one written 0 (start q)
-    unfolding header-of state-words rooted
+    unfolding header-of header-words rooted
     fresh =
         let z : 0 + 8 ≡ 8 = omega arith in
         let s = root-size in

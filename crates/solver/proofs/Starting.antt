@@ -9,13 +9,13 @@ use lib.ListN.{length, take}
 use borrow.Author.Tests.{leb-true, leb-false}
 use Rattle.room.specs.Room.{seg, length-put}
 use Rattle.room.specs.Parts.{row-within}
-use Rattle.room.specs.Replaced.{by-test}
 use Rattle.terms.specs.Bounds.{edition-one}
 use Rattle.terms.specs.Answers.{listed}
+use Rattle.terms.specs.Lists.{cases}
 use Rattle.search.specs.declared.ends.End.the-variants.{Space}
 use Rattle.search.specs.declared.limits.Limits.{Limits}
 use Rattle.search.specs.Run.{Visit, visit, found, found-size, root}
-use Rattle.promises.specs.Runs.Verdicts.{allowed}
+use Rattle.search.specs.Verdicts.{allowed}
 use Rattle.turns.specs.Going.{Open, left, to-come}
 use Rattle.results.specs.declared.ran.Record.{Record}
 use Rattle.record.specs.declared.Noted.{Noted}
@@ -108,7 +108,7 @@ module _ {arities : List ℕ} {limits : Limits} {l a : List ℕ} {to : Given} (S
     pub root-held : {noted : Record} → n ≡ Held noted → Running arities limits l last 0 0 noted to
     unfolding note-by held-by fits found-size
     root-held {noted} h =
-        by-test (leb (length (listed (found edition-one (v .answer)))) (length a - 0))
+        cases (leb (length (listed (found edition-one (v .answer)))) (length a - 0))
         (λ t.
         let same : Held noted ≡ Held (more limits nothing a v vs) = sym h ∙ noted-as ∙ rw t in
         let is : noted ≡ more limits nothing a v vs = cc in
@@ -121,7 +121,7 @@ module _ {arities : List ℕ} {limits : Limits} {l a : List ℕ} {to : Given} (S
     pub root-space : n ≡ NoSpace → Ends to (record { end = Space; counts = one }) last
     unfolding note-by held-by fits found-size
     root-space h =
-        by-test (leb (length (listed (found edition-one (v .answer)))) (length a - 0))
+        cases (leb (length (listed (found edition-one (v .answer)))) (length a - 0))
         (λ t.
         let never : _≡_ {A = Noted} NoSpace (Held (with-answers (counted nothing 1) (found edition-one (v .answer)))) = sym h ∙ noted-as ∙ rw t in
         let z : _≡_ {A = ℕ} 0 1 = cc in absurd (omega arith))

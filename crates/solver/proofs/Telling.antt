@@ -6,12 +6,12 @@ use native.Mathlib.Omega.{arith}
 use lib.Dec.{ltb}
 use lib.ListN.{length}
 use borrow.Author.Tests.{ltb-false}
-use Rattle.room.specs.Replaced.{by-test}
 use Rattle.terms.specs.Bounds.{edition-one, edition-one-proper}
 use Rattle.checks.specs.Check.{check-question}
 use Rattle.checks.specs.Lent.{check-question-asked}
 use Rattle.terms.specs.Reading.{question-of}
 use Rattle.terms.specs.declared.refusal.Checked.the-variants.{Fine}
+use Rattle.terms.specs.Lists.{cases}
 use Rattle.search.specs.declared.limits.Limits.{Limits}
 use Rattle.search.specs.declared.limits.Lent.{Lent}
 use Rattle.search.specs.declared.limits.Lent.the-variants.{Within, Above}
@@ -52,9 +52,9 @@ asking {n} {arities} e {ws} {limits} B f h =
 
 pub within-bounds : (steps depth size : ℕ) {limits : Limits} → lent steps depth size ≡ Within limits → Bounded limits
 within-bounds steps depth size {limits} e =
-    by-test (ltb 1000000000 steps) (λ t. never (rw t at e))
-    (λ f. by-test (ltb 1024 depth) (λ t. never (rw (f, t) at e))
-    (λ g. by-test (ltb 8192 size) (λ t. never (rw (f, g, t) at e))
+    cases (ltb 1000000000 steps) (λ t. never (rw t at e))
+    (λ f. cases (ltb 1024 depth) (λ t. never (rw (f, t) at e))
+    (λ g. cases (ltb 8192 size) (λ t. never (rw (f, g, t) at e))
     (λ h.
     let same : Within (record { steps = steps; depth = depth; size = size }) ≡ Within limits = rw (f, g, h) at e in
     let is : limits ≡ record { steps = steps; depth = depth; size = size } = cc in

@@ -11,16 +11,17 @@ use Rattle.room.specs.Room.{seg, put, length-put, put-one, put-put, put-more, s
 use Rattle.room.specs.Parts.{Apart, earlier, later, seg-put}
 use Rattle.terms.specs.Bounds.{edition-one}
 use Rattle.terms.specs.Term.{Term, words, kernel, over}
-use Rattle.terms.specs.Shape.{is-unknown, number}
+use Rattle.terms.specs.Shape.{is-unknown, number, unknown-number}
 use Rattle.search.specs.State.{State, live, pend, piled}
 use Rattle.search.specs.Children.{settle, pile-up}
 use Rattle.rows.specs.declared.parts.Rest.{Rest}
-use Rattle.rows.specs.Pile.{pile-words}
 use Rattle.rows.specs.Members.{member-words, members-append, words-over}
 use Rattle.binding.specs.Child.{extended}
 use Rattle.terms.specs.Formed.{Equation}
+use Rattle.terms.specs.Answers.{pile-words}
 use Rattle.search.specs.declared.steps.Tails.the-variants.{Same}
 use Rattle.search.specs.Classify.{tails-by, tails}
+use Rattle.search.specs.StateWords.{pending-words}
 use Rattle.replace.specs.declared.Copied.the-variants.{Done, Full}
 use Rattle.rows.specs.declared.parts.Made.{Made}
 use Rattle.rows.specs.declared.parts.Made.the-variants.{Large}
@@ -28,7 +29,6 @@ use Rattle.rows.specs.Wrote.{Wrote}
 use Rattle.rows.specs.Finished.{Finished}
 use Rattle.rows.specs.Header.{header-of}
 use Rattle.binding.specs.Keep.{kept-piece, kept-header}
-use Rattle.rows.specs.States.{pending-words}
 use Rattle.rows.specs.Row.{Makes}
 use Rattle.tails.specs.Due.{Due, child, child-is}
 use Rattle.tails.proofs.Making.{Below, makes-before, due-elsewhere}
@@ -38,7 +38,7 @@ use Rattle.choices.specs.Gathered.{joining-piece, TailParts}
 use Rattle.choices.specs.Opened.{Parent, Opened, Elsewhere, elsewhere-next, elsewhere-put, opened-after, to-left, to-right, news}
 use Rattle.splits.specs.Kept.{entry-of, fourth, Entry, EntryLaid}
 use Rattle.tails.proofs.Opening.{numbers, s-stands, s-noted, r-noted, left-parts, right-parts, left-is, right-is}
-use Rattle.tails.proofs.Tailing.{is-the-unknown, unknown-word}
+use Rattle.tails.proofs.Tailing.{unknown-word}
 
 member-words-none : (ms : List Term) → length (member-words edition-one ms) ≡ 0 → ms ≡ []
 unfolding member-words
@@ -51,7 +51,7 @@ entry-words : (ms : List Term) (x : Term) → is-unknown x ≡ true → 0 < leng
 unfolding entry-of pile-words member-words words edition-one
 entry-words [] x e h = absurd (omega arith)
 entry-words (m ∷ ms) x e h =
-    let w : words edition-one x ≡ (1000 + number x) ∷ [] = ap (words edition-one) (is-the-unknown x e) in
+    let w : words edition-one x ≡ (1000 + number x) ∷ [] = ap (words edition-one) (unknown-number x e) in
     ap (λ (ws : List ℕ). (1000 + number x) ∷ ws) (append-nil (words edition-one (over (m ∷ ms) x)) ∙ words-over edition-one (m ∷ ms) x ∙ ap (λ (ws : List ℕ). member-words edition-one (m ∷ ms) ++ ws) w)
 
 module _ {arities l : List ℕ} {from : ℕ} {rest : Rest} {sides : Sides} {lent next scratch : ℕ} {p : Parent} (S : Opened arities l from rest sides lent next scratch p) where

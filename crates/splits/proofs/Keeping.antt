@@ -8,18 +8,20 @@ use lib.ListN.{length, getD, length-append}
 use borrow.Author.Tests.{eqb-true}
 use Rattle.room.specs.Room.{seg, put, Within, length-put, length-seg, put-nil, put-put, seg-put-same, seg-cons, seg-zero}
 use Rattle.room.specs.Parts.{Apart, CopyParts, earlier, later, apart-part, seg-put}
-use Rattle.room.specs.Replaced.{replaced, image, by-test}
+use Rattle.room.specs.Replaced.{replaced, image}
 use Rattle.replace.specs.Fitting.{told-full, told-of-le, told-of-lt, further}
 use Rattle.replace.specs.declared.Copied.{Copied}
 use Rattle.replace.specs.declared.Copied.the-variants.{Done, Full}
 use Rattle.terms.specs.Bounds.{edition-one}
 use Rattle.terms.specs.Term.{words, kernel}
 use Rattle.terms.specs.Formed.{Equation, sides, row}
-use Rattle.terms.specs.Answers.{Named}
+use Rattle.terms.specs.Answers.{Named, pile-words}
+use Rattle.terms.specs.Lists.{cases}
 use Rattle.search.specs.declared.steps.Tails.the-variants.{Neither}
 use Rattle.search.specs.State.{State, live, pend, state-size}
 use Rattle.search.specs.Classify.{tails}
 use Rattle.search.specs.Children.{settle}
+use Rattle.search.specs.StateWords.{pending-words, length-pending}
 use Rattle.rows.specs.declared.parts.Rest.{Rest}
 use Rattle.rows.specs.declared.parts.Made.{Made}
 use Rattle.rows.specs.declared.parts.Made.the-variants.{Large}
@@ -27,9 +29,8 @@ use Rattle.rows.specs.Bind.{FinishParts}
 use Rattle.rows.specs.Header.{header-of}
 use Rattle.rows.specs.Finished.{Finished}
 use Rattle.binding.specs.Keep.{kept-piece, kept-header}
-use Rattle.rows.specs.Pile.{pile-words}
 use Rattle.rows.specs.Wrote.{Wrote, wrote-length, wrote-more, full-more, done-fits, done-length, done-room}
-use Rattle.rows.specs.States.{pending-words, length-pending, pending-append}
+use Rattle.rows.specs.States.{pending-append}
 use Rattle.rows.specs.Row.{Makes}
 use Rattle.binding.specs.Child.{extended, Piled, keep-makes}
 use Rattle.choices.specs.declared.sides.Sides.{Sides}
@@ -45,7 +46,7 @@ pub replaced-self : (x : ℕ) (ws : List ℕ) → replaced x (x ∷ []) ws ≡ w
 unfolding replaced image
 replaced-self x [] = refl
 replaced-self x (w ∷ ws) =
-    by-test (eqb w x)
+    cases (eqb w x)
     (λ t. rw (t, replaced-self x ws, eqb-true w x t))
     (λ f. rw (f, replaced-self x ws))
 

@@ -13,7 +13,7 @@ use Rattle.replace.specs.Fitting.{told-done, told-full}
 use Rattle.replace.specs.declared.Copied.{Copied}
 use Rattle.replace.specs.declared.Copied.the-variants.{Done, Full}
 use Rattle.terms.specs.Bounds.{edition-one, edition-one-proper}
-use Rattle.terms.specs.Lists.{any}
+use Rattle.terms.specs.Lists.{any, cond-or}
 use Rattle.terms.specs.Term.{Term, unknown, words, kernel, occurs, over, subst}
 use Rattle.terms.specs.Flat.{length-words}
 use Rattle.rows.specs.declared.parts.Rest.{Rest}
@@ -24,6 +24,7 @@ use Rattle.search.specs.Children.{bound-state, bound, then-bound, settle}
 use Rattle.search.specs.declared.steps.Tails.the-variants.{Different}
 use Rattle.search.specs.Classify.{tails-by, tails}
 use Rattle.terms.specs.Shape.{is-unknown, number}
+use Rattle.terms.specs.Substitution.{occurs-over}
 use Rattle.rows.specs.Row.{Makes}
 use Rattle.binding.specs.Child.{ahead}
 use Rattle.rows.specs.Flat.{holds}
@@ -34,7 +35,7 @@ use Rattle.splits.specs.declared.different.Joined.{Joined}
 use Rattle.choices.specs.Opened.{Parent, Elsewhere, elsewhere-next, elsewhere-put, to-left, to-right, news}
 use Rattle.tails.specs.Due.{Due, child, child-is}
 use Rattle.splits.specs.Kept.{fourth}
-use Rattle.splits.specs.Occurring.{bound-size, occurs-subst, occurs-over}
+use Rattle.splits.specs.Occurring.{bound-size, occurs-subst}
 use Rattle.splits.specs.Shared.{Sharing, ShareParts, ShareMade, Shared, Twice, TwiceParts, TwiceMade, Renew, RenewParts, RenewMade, JoinedLaid, first-value, second-value, half, twice}
 use Rattle.tails.proofs.Opening.{numbers}
 use Rattle.tails.proofs.Tailing.{s-word, r-word, s-small, r-small}
@@ -107,10 +108,6 @@ different-kind : (t u : Term) → tails t u ≡ Different → (is-unknown (kerne
 unfolding tails
 different-kind t u e = kinds (is-unknown (kernel t)) (is-unknown (kernel u)) (eqb (number (kernel t)) (number (kernel u))) e
 
-by-cases : (a b : Bool) (x y : Node) → cond a x (cond b x y) ≡ cond (a || b) x y
-by-cases true b x y = refl
-by-cases false b x y = refl
-
 then-cond : (a : Bool) (r : ℕ) (v : Term) (st : State) → then-bound r v (cond a dead (live st)) ≡ cond a dead (bound r v st)
 unfolding then-bound
 then-cond true r v st = refl
@@ -164,7 +161,7 @@ module _ {arities l : List ℕ} {from : ℕ} {rest : Rest} {sides : Sides} {to l
       ∙ ap (λ (c : Bool). then-bound r second (cond c dead (live (half p next s)))) os
       ∙ then-cond A r second (half p next s)
       ∙ ap (λ (c : Bool). cond A dead (cond c dead (live (twice p next s r)))) or
-      ∙ by-cases A B dead (live (twice p next s r))
+      ∙ sym (cond-or A B dead (live (twice p next s r)))
 
   -- ---- U and T are laid out
 

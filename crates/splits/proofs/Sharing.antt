@@ -12,6 +12,7 @@ use Rattle.terms.specs.Term.{Term, words}
 use Rattle.terms.specs.Formed.{row, sides}
 use Rattle.search.specs.State.{State, live, pend, size-equations, state-size}
 use Rattle.search.specs.Children.{bound-state}
+use Rattle.search.specs.StateWords.{pending-words}
 use Rattle.rows.specs.declared.parts.Rest.{Rest}
 use Rattle.rows.specs.declared.parts.Made.{Made}
 use Rattle.rows.specs.declared.header.Header.{Header}
@@ -19,7 +20,6 @@ use Rattle.rows.specs.Bind.{FinishParts, pending-piece, pile-piece, bound-piece
 use Rattle.rows.specs.Header.{header-of}
 use Rattle.rows.specs.Finished.{Finished, bound-header}
 use Rattle.rows.specs.First.{header-in, HeaderParts, rest-after, header-in-words, holds-rest}
-use Rattle.rows.specs.States.{pending-words}
 use Rattle.rows.specs.Row.{Rested, Makes, header-for}
 use Rattle.binding.specs.Child.{ahead, finish-makes}
 use Rattle.choices.specs.declared.sides.Sides.{Sides}

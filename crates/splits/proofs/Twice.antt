@@ -1,25 +1,25 @@
 -- Two bindings, one after the other: s by way of the last row of scratch, then r.
-use Prim.Native.Nat.{ℕ, suc, _+_, _-_, _*_, _<_, _≤_}
+use Prim.Native.Nat.{ℕ, _+_, _-_, _<_, _≤_}
 use mathlib.Core.Path.{_≡_, refl, ap, sym, _∙_}
 use mathlib.Core.List.{List, [], _∷_}
 use mathlib.Core.Bool.{Bool}
 use native.Mathlib.Omega.{arith}
 use native.Mathlib.Nat.{zero-add}
-use lib.Dec.{eqb, leb, ltb}
+use lib.Dec.{leb, ltb}
 use lib.ListN.{length, length-append}
 use borrow.Author.Tests.{le-ltb, leb-true, leb-false}
 use Rattle.room.specs.Room.{seg, seg-seg}
 use Rattle.room.specs.Parts.{earlier, later}
-use Rattle.room.specs.Replaced.{by-test}
 use Rattle.terms.specs.Bounds.{edition-one}
-use Rattle.terms.specs.Lists.{All, both, All-map, All-of-map}
-use Rattle.terms.specs.Lists as lists
-use Rattle.terms.specs.Term.{Term, Terms, none, more, members, over, subst, subst*, count}
-use Rattle.terms.specs.Formed.{Formed, Formed*, formed-unknown, formed-empty, formed-with, formed-functor, formed-none, formed-more}
+use Rattle.terms.specs.Lists.{All, both, All-map, All-of-map, cases, none}
+use Rattle.terms.specs.Term.{Term, members}
+use Rattle.terms.specs.Formed.{Formed, formed-unknown}
 use Rattle.terms.specs.Formed.{Equation}
-use Rattle.terms.specs.Answers.{Named}
+use Rattle.terms.specs.Substitution.{formed-wider, formed-subst}
+use Rattle.terms.specs.Members.{formed-members, formed-over}
 use Rattle.search.specs.State.{State, live, state-size}
 use Rattle.search.specs.Children.{bound-state, kept, others}
+use Rattle.search.specs.Entries.{All-others}
 use Rattle.rows.specs.declared.parts.Rest.{Rest}
 use Rattle.rows.specs.declared.parts.Made.{Made}
 use Rattle.rows.specs.declared.parts.Made.the-variants.{Large, Live}
@@ -38,61 +38,14 @@ use Rattle.tails.proofs.Making.{Below, makes-before, makes-large, due-target, d
 
 -- ---- terms stay formed
 
-mutual
-  pub formed-more-unknowns : {arities : List ℕ} {n m : ℕ} {t : Term} → n ≤ m → Formed arities n t → Formed arities m t
-  formed-more-unknowns h (formed-unknown {i = i} f) = formed-unknown {i = i} (omega arith)
-  formed-more-unknowns h formed-empty = formed-empty
-  formed-more-unknowns h (formed-with f g) = formed-with (formed-more-unknowns h f) (formed-more-unknowns h g)
-  formed-more-unknowns h (formed-functor k e f) = formed-functor k e (formed-more-unknowns* h f)
-
-  formed-more-unknowns* : {arities : List ℕ} {n m : ℕ} {ts : Terms} → n ≤ m → Formed* arities n ts → Formed* arities m ts
-  formed-more-unknowns* h formed-none = formed-none
-  formed-more-unknowns* h (formed-more f g) = formed-more (formed-more-unknowns h f) (formed-more-unknowns* h g)
-
-same-count : (x : ℕ) (v : Term) (ts : Terms) → count (subst* x v ts) ≡ count ts
-unfolding subst* count
-same-count x v none = refl
-same-count x v (more t ts) = ap suc (same-count x v ts)
-
-module _ {arities : List ℕ} {n : ℕ} (x : ℕ) {v : Term} (formed : Formed arities n v) where
-  mutual
-    unfolding subst count
-
-    pub formed-subst : {t : Term} → Formed arities n t → Formed arities n (subst x v t)
-    formed-subst (formed-unknown {i = i} h) = by-test (eqb i x) (λ t. rw t formed) (λ f. rw f (formed-unknown h))
-    formed-subst formed-empty = formed-empty
-    formed-subst (formed-with f g) = formed-with (formed-subst f) (formed-subst g)
-    formed-subst (formed-functor {ts = ts} h e f) = formed-functor h (same-count x v ts ∙ e) (formed-subst* f)
-
-    formed-subst* : {ts : Terms} → Formed* arities n ts → Formed* arities n (subst* x v ts)
-    formed-subst* formed-none = formed-none
-    formed-subst* (formed-more f g) = formed-more (formed-subst f) (formed-subst* g)
-
--- the members of a formed set, and those of them that join a tail
-formed-members : {arities : List ℕ} {n : ℕ} {t : Term} → Formed arities n t → All (Formed arities n) (members t)
-unfolding members
-formed-members (formed-unknown h) = lists.none
-formed-members formed-empty = lists.none
-formed-members (formed-with f g) = both f (formed-members g)
-formed-members (formed-functor h e f) = lists.none
-
+-- those members of a formed set that join a tail
 formed-joining : {arities : List ℕ} {n : ℕ} (pair : Term → Term → Equation) (tail : Bool) (others : List Term) {owns : List Term} (ds : List ℕ) → All (Formed arities n) owns
     → All (Formed arities n) (joining-by pair tail others owns ds)
 unfolding joining-by
-formed-joining pair tail others ds lists.none = lists.none
-formed-joining pair tail others [] (both f fs) = lists.none
+formed-joining pair tail others ds none = none
+formed-joining pair tail others [] (both f fs) = none
 formed-joining pair tail others (d ∷ ds) (both f fs) =
-    by-test (ltb d (length others)) (λ t. rw t (formed-joining pair tail others ds fs)) (λ q. rw q (both f (formed-joining pair tail others ds fs)))
-
-formed-over : {arities : List ℕ} {n : ℕ} {ms : List Term} {k : Term} → All (Formed arities n) ms → Formed arities n k → Formed arities n (over ms k)
-unfolding over
-formed-over lists.none g = g
-formed-over (both f fs) g = formed-with f (formed-over fs g)
-
-formed-others : {arities : List ℕ} {n : ℕ} (x : ℕ) {ns : List Named} → All (λ m. Formed arities n (m .value)) ns → All (λ m. Formed arities n (m .value)) (others x ns)
-unfolding others
-formed-others x lists.none = lists.none
-formed-others x (both {x = m} f fs) = by-test (eqb (m .name) x) (λ t. rw t (formed-others x fs)) (λ q. rw q (both f (formed-others x fs)))
+    cases (ltb d (length others)) (λ t. rw t (formed-joining pair tail others ds fs)) (λ q. rw q (both f (formed-joining pair tail others ds fs)))
 
 -- ---- what is told of a live node
 
@@ -105,14 +58,14 @@ module _ (lent : ℕ) (st : State) (few : st .next ≤ 512) {a : Made} (tells : 
   unfolding made
   live-fits e =
       let t = told-made in
-      by-test (leb (state-size st) lent) (λ b. leb-true (state-size st) lent b)
+      cases (leb (state-size st) lent) (λ b. leb-true (state-size st) lent b)
       (λ b. let g : a ≡ Large = t ∙ rw b in let z : _≡_ {A = ℕ} 0 1 = cc in absurd (omega arith))
 
   pub not-live : (a ≡ Live → ⊥) → lent < state-size st
   unfolding made
   not-live n =
       let t = told-made in
-      by-test (leb (state-size st) lent) (λ b. absurd (n (t ∙ rw b))) (λ b. leb-false (state-size st) lent b)
+      cases (leb (state-size st) lent) (λ b. absurd (n (t ∙ rw b))) (λ b. leb-false (state-size st) lent b)
 
 -- ---- the first binding
 
@@ -176,7 +129,7 @@ module _ {arities l : List ℕ} {from : ℕ} {rest : Rest} {sides : Sides} {x u 
     first-formed : Formed arities (next + 1) (first-value p next)
     unfolding first-value to-left
     first-formed =
-        formed-over (formed-joining own-right _ (members (p .t)) (p .es) (formed-members (formed-more-unknowns {m = next + 1} (omega arith) (O .formed-u)))) (formed-unknown (omega arith))
+        formed-over (formed-joining own-right _ (members (p .t)) (p .es) (formed-members (formed-wider {m = next + 1} (omega arith) (O .formed-u)))) (formed-unknown (omega arith))
 
     few-unknowns : next + 1 ≤ edition-one .unknown-words
     unfolding edition-one
@@ -192,7 +145,7 @@ module _ {arities l : List ℕ} {from : ℕ} {rest : Rest} {sides : Sides} {x u 
           fresh = B .holds (half p next s) refl e;
           fits = live-fits lent (half p next s) half-next (B .tells) e;
           worded = record { proper = O .worded .proper; functors = O .worded .functors; unknowns = few-unknowns };
-          formed = All-of-map (kept s (first-value p next)) (λ k f. formed-subst s first-formed f) (formed-others s (All-map (λ k f. formed-more-unknowns {m = next + 1} (omega arith) f) (O .formed-pile)));
+          formed = All-of-map (kept s (first-value p next)) (λ k f. formed-subst s (first-value p next) first-formed f) (All-map (λ k f. f .1) (All-others s (All-map (λ k f. formed-wider {m = next + 1} (omega arith) f) (O .formed-pile))));
           next-is = refl;
           few = D .few;
           lent-small = N .lent-small;

@@ -15,6 +15,7 @@ use Rattle.terms.specs.Term.{Term, words, occurs}
 use Rattle.terms.specs.Formed.{Equation}
 use Rattle.search.specs.State.{State, state-size}
 use Rattle.search.specs.Children.{bound, bound-state, replace-in, released, entries}
+use Rattle.search.specs.StateWords.{pending-words, length-pending}
 use Rattle.rows.specs.declared.parts.Rest.{Rest}
 use Rattle.rows.specs.declared.parts.Made.{Made}
 use Rattle.rows.specs.declared.parts.Made.the-variants.{Dead, Large}
@@ -23,7 +24,7 @@ use Rattle.rows.specs.Flat.{holds, holds-words}
 use Rattle.rows.specs.Header.{header-of}
 use Rattle.rows.specs.Finished.{Finished, bound-header}
 use Rattle.rows.specs.Wrote.{Wrote, wrote-length, done-fits, done-length, done-room}
-use Rattle.rows.specs.States.{pending-words, length-pending, pending-append, replaced-pending}
+use Rattle.rows.specs.States.{pending-append, replaced-pending}
 use Rattle.rows.specs.Row.{Makes}
 use Rattle.binding.specs.Child.{Stands, ahead, finish-makes}
 use Rattle.choices.specs.declared.sides.Sides.{Sides}

@@ -15,13 +15,14 @@ use Rattle.terms.specs.Flat.{length-words}
 use Rattle.rows.specs.declared.parts.Rest.{Rest}
 use Rattle.rows.specs.Stripped.{kernel-place}
 use Rattle.rows.specs.Members.{member-words, words-members, length-members}
-use Rattle.rows.specs.States.{pending-words, pending-append}
+use Rattle.rows.specs.States.{pending-append}
 use Rattle.turns.specs.Picking.{equations-by}
 use Rattle.choices.specs.declared.sides.Sides.{Sides}
 use Rattle.choices.specs.Places.{places}
 use Rattle.choices.specs.Gathered.{joining-piece, meeting-piece, equations-piece, Noted, MeetParts, TailParts}
 use Rattle.choices.specs.Standing.{At, at-of, at-last, length-places, rise, joining-is, meeting-is}
 use Rattle.choices.specs.Opened.{Parent, Opened, own-left, own-right, to-left, to-right, news, few-members}
+use Rattle.search.specs.StateWords.{pending-words}
 
 -- the two parts of words that stand somewhere
 seg-front : (l us vs : List ℕ) (at : ℕ) {n : ℕ} (k : ℕ) → seg l at n ≡ us ++ vs → length us ≡ k → k ≤ n → seg l at k ≡ us

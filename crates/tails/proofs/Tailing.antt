@@ -2,16 +2,16 @@
 use Prim.Native.Nat.{ℕ, _+_, _-_, _<_, _≤_}
 use mathlib.Core.Path.{_≡_, refl, ap, sym, _∙_}
 use mathlib.Core.List.{List, [], _∷_, _++_}
-use mathlib.Core.Bool.{Bool, true, false, false≢true}
+use mathlib.Core.Bool.{Bool, true, false}
 use native.Mathlib.Omega.{arith}
 use lib.Dec.{eqb}
 use lib.ListN.{length, getD}
 use Rattle.room.specs.Room.{seg, put, seg-put-same, getD-seg}
 use Rattle.room.specs.Parts.{earlier, later}
 use Rattle.terms.specs.Bounds.{edition-one}
-use Rattle.terms.specs.Term.{Term, unknown, empty, with, functor, words, members, kernel, over}
-use Rattle.terms.specs.Shape.{is-unknown, number}
-use Rattle.terms.specs.Formed.{Formed, formed-unknown}
+use Rattle.terms.specs.Term.{Term, words, members, kernel, over}
+use Rattle.terms.specs.Shape.{is-unknown, number, unknown-number}
+use Rattle.terms.specs.Members.{unknown-below, formed-kernel}
 use Rattle.search.specs.declared.steps.Tails.{Tails}
 use Rattle.search.specs.declared.steps.Tails.the-variants.{Left, Right}
 use Rattle.search.specs.State.{State, pend}
@@ -19,7 +19,7 @@ use Rattle.search.specs.Classify.{tails-by, tails}
 use Rattle.search.specs.Children.{bound, settle}
 use Rattle.rows.specs.declared.parts.Rest.{Rest}
 use Rattle.rows.specs.declared.parts.Made.{Made}
-use Rattle.rows.specs.Members.{words-over, formed-kernel}
+use Rattle.rows.specs.Members.{words-over}
 use Rattle.rows.specs.Row.{Makes}
 use Rattle.binding.specs.Child.{ahead}
 use Rattle.choices.specs.declared.sides.Sides.{Sides}
@@ -31,13 +31,6 @@ use Rattle.tails.proofs.Opening.{numbers, s-stands, r-stands, s-noted, 
 use Rattle.tails.proofs.Making.{Below, below-put, makes-before, due-target, due-elsewhere}
 
 -- ---- what the kind of the tails tells
-
-pub is-the-unknown : (t : Term) → is-unknown t ≡ true → t ≡ unknown (number t)
-unfolding is-unknown number
-is-the-unknown (unknown i) e = refl
-is-the-unknown empty e = absurd (false≢true e)
-is-the-unknown (with m r) e = absurd (false≢true e)
-is-the-unknown (functor k ts) e = absurd (false≢true e)
 
 kinds : (s r c : Bool) (k : Tails) → tails-by s r c ≡ k → (k ≡ Left → (s ≡ true) × (r ≡ false)) × (k ≡ Right → (s ≡ false) × (r ≡ true))
 unfolding tails-by
@@ -55,14 +48,11 @@ pub right-kind : (t u : Term) → tails t u ≡ Right → is-unknown (kernel u) 
 unfolding tails
 right-kind t u e = kinds (is-unknown (kernel t)) (is-unknown (kernel u)) (eqb (number (kernel t)) (number (kernel u))) Right e .1 refl .1
 
-number-below : {arities : List ℕ} {n i : ℕ} → Formed arities n (unknown i) → i < n
-number-below (formed-unknown h) = h
-
 -- an unknown's word stands where its words do
 pub unknown-word : (l : List ℕ) (at n : ℕ) (t : Term) → seg l at n ≡ words edition-one t → is-unknown t ≡ true → 0 < n → getD l at 0 ≡ 1000 + number t
 unfolding words edition-one
 unknown-word l at n t e f h =
-    let u = is-the-unknown t f in
+    let u = unknown-number t f in
     let w : seg l at n ≡ (1000 + number t) ∷ [] = e ∙ ap (words edition-one) u in
     let z : at + 0 ≡ at = omega arith in
     rw z at (sym (getD-seg l at n 0 h)) ∙ ap (λ (ws : List ℕ). getD ws 0 0) w
@@ -92,10 +82,10 @@ module _ {arities l : List ℕ} {from : ℕ} {rest : Rest} {sides : Sides} {to l
   r-word e = let N = numbers S in unknown-word l (from + 8 + sides .r) (sides .end - sides .r) (kernel (p .u)) (r-stands S) e (omega arith)
 
   pub s-small : is-unknown (kernel (p .t)) ≡ true → number (kernel (p .t)) < next
-  s-small e = number-below (rw (is-the-unknown (kernel (p .t)) e) at (formed-kernel (S .worded) (S .formed-t)))
+  s-small e = unknown-below (rw (unknown-number (kernel (p .t)) e) at (formed-kernel (S .formed-t)))
 
   pub r-small : is-unknown (kernel (p .u)) ≡ true → number (kernel (p .u)) < next
-  r-small e = number-below (rw (is-the-unknown (kernel (p .u)) e) at (formed-kernel (S .worded) (S .formed-u)))
+  r-small e = unknown-below (rw (unknown-number (kernel (p .u)) e) at (formed-kernel (S .formed-u)))
 
   -- ---- the value of a tail
 

@@ -1,7 +1,8 @@
 -- An unknown and a term beside it: a binding, or an entry of the pile. The words of an answer, SPECIFICATION 3.4: an answer is its
 -- number of bindings, then for each the unknown's number and its value.
-use Prim.Native.Nat.{ℕ}
-use mathlib.Core.List.{List, [], _∷_, _++_}
+use Prim.Native.Nat.{ℕ, _+_}
+use mathlib.Core.Path.{_≡_, refl, ap, sym, _∙_}
+use mathlib.Core.List.{List, [], _∷_, _++_, append-assoc}
 use lib.ListN.{length}
 use Rattle.terms.specs.Bounds.{Bounds}
 use Rattle.terms.specs.Term.{Term, words}
@@ -14,6 +15,11 @@ unfoldable pub binding-words : Bounds → List Named → List ℕ
 binding-words b [] = []
 binding-words b (n ∷ ns) = n .name ∷ (words b (n .value) ++ binding-words b ns)
 
+-- an entry X = t of the pile is held as the words of X and of t
+unfoldable pub pile-words : Bounds → List Named → List ℕ
+pile-words b [] = []
+pile-words b (n ∷ ns) = (b .first-unknown + n .name) ∷ (words b (n .value) ++ pile-words b ns)
+
 unfoldable pub answer-words : Bounds → List Named → List ℕ
 answer-words b ns = length ns ∷ binding-words b ns
 
@@ -21,3 +27,8 @@ answer-words b ns = length ns ∷ binding-words b ns
 unfoldable pub listed : List (List ℕ) → List ℕ
 listed [] = []
 listed (l ∷ ls) = l ++ listed ls
+
+pub listed-append : (xs ys : List (List ℕ)) → listed (xs ++ ys) ≡ listed xs ++ listed ys
+unfolding listed
+listed-append [] ys = refl
+listed-append (x ∷ xs) ys = ap (λ l. x ++ l) (listed-append xs ys) ∙ sym (append-assoc x (listed xs) (listed ys))

@@ -1,14 +1,17 @@
 -- Words read back by what is due, as the check walks them: terms, then the bindings of the answer at hand, then answers. The reading of a list of
--- answers; of terms alone it is `Reading`'s. When bindings and lists are formed.
+-- answers; of terms alone it is `Reading`'s. When bindings and lists are formed, and that bindings are determined by their words.
 use Prim.Native.Nat.{ℕ, zero, suc, _+_, _<_}
-use mathlib.Core.List.{List, [], _∷_, map}
-use lib.ListN.{drop}
-use Rattle.terms.specs.Answers.{Named, answer-words, listed}
+use mathlib.Core.Path.{_≡_, refl, sym, _∙_}
+use mathlib.Core.List.{List, [], _∷_, _++_, map, append-assoc, head-eq-of-cons-eq, tail-eq-of-cons-eq}
+use native.Mathlib.Omega.{arith}
+use lib.ListN.{length, drop}
+use Rattle.terms.specs.Answers.{Named, binding-words, answer-words, listed}
 use Rattle.terms.specs.Bounds.{Bounds}
-use Rattle.terms.specs.Kind.{kind, takes}
-use Rattle.terms.specs.Term.{Term}
+use Rattle.terms.specs.Kind.{kind, takes, Worded}
+use Rattle.terms.specs.Term.{Term, words}
+use Rattle.terms.specs.Lists.{All, none, both}
 use Rattle.terms.specs.Formed.{Formed}
-use Rattle.terms.specs.Reading.{top, push}
+use Rattle.terms.specs.Reading.{top, push, words-determine}
 
 -- a binding is formed: its unknown is one of the first n, and its value is formed
 pub record Bound (arities : List ℕ) (n : ℕ) (x : Named) : Type 0 where
@@ -46,3 +49,22 @@ parts b arities (w ∷ ws) zero zero zero = nothing
 
 unfoldable pub answers-of : Bounds → (arities : List ℕ) (answers : ℕ) → List ℕ → List (List Named)
 answers-of b arities answers ws = parts b arities ws answers 0 0 .answers
+
+-- ---- bindings are determined by their words
+
+same-named : {x y : Named} → x .name ≡ y .name → x .value ≡ y .value → x ≡ y
+same-named p q = λ i. record { name = p i; value = q i }
+
+module _ {b : Bounds} {arities : List ℕ} {n : ℕ} (worded : Worded b arities n) where
+  pub bindings-determine : {xs ys : List Named} {vs ws : List ℕ} → All (Bound arities n) xs → All (Bound arities n) ys → length xs ≡ length ys
+      → binding-words b xs ++ vs ≡ binding-words b ys ++ ws → (xs ≡ ys) × (vs ≡ ws)
+  unfolding binding-words
+  bindings-determine none none h e = (refl, e)
+  bindings-determine none (both g gs) h e = absurd (omega arith)
+  bindings-determine (both f fs) none h e = absurd (omega arith)
+  bindings-determine {vs} {ws} (both {x = x} {xs = xs} f fs) (both {x = y} {xs = ys} g gs) h e =
+      let d = words-determine worded (f .value) (g .value)
+      (sym (append-assoc (words b (x .value)) (binding-words b xs) vs) ∙ tail-eq-of-cons-eq e ∙ append-assoc (words b (y .value)) (binding-words b ys) ws) in
+      let r = bindings-determine fs gs (omega arith) (d .1) in
+      let s : x ≡ y = same-named (head-eq-of-cons-eq e) (d .0) in
+      (cc, r .1)

@@ -2,8 +2,9 @@
 -- Facts of a test are stated as `b ≡ true`. Then laws of `All` and `Any` under map, append and flatMap.
 use mathlib.Core.List.{List, [], _∷_, _++_, map, flatMap}
 use mathlib.Core.Path.{_≡_, refl}
-use mathlib.Core.Bool.{Bool, true, false, false≢true, _||_, _&&_}
+use mathlib.Core.Bool.{Bool, true, false, false≢true, _||_, _&&_, cond}
 use mathlib.Core.Logic.{_⊎_, inl, inr}
+pub use Rattle.room.specs.Cases.{cases}
 
 pub data All {A : Type 0} (P : A → Type 0) : List A → Type 0 where
   none : All P []
@@ -12,11 +13,6 @@ pub data All {A : Type 0} (P : A → Type 0) : List A → Type 0 where
 pub data Any {A : Type 0} (P : A → Type 0) : List A → Type 0 where
   here : {x : A} {xs : List A} → P x → Any P (x ∷ xs)
   there : {x : A} {xs : List A} → Any P xs → Any P (x ∷ xs)
-
--- by what a test says
-pub cases : {P : Type 0} (b : Bool) → (b ≡ true → P) → (b ≡ false → P) → P
-cases true f g = f refl
-cases false f g = g refl
 
 pub and-left : (a b : Bool) → (a && b) ≡ true → a ≡ true
 and-left true b t = refl
@@ -45,6 +41,14 @@ or-right false t = t
 pub or-neither : (a b : Bool) → (a || b) ≡ false → (a ≡ false) × (b ≡ false)
 or-neither true b e = (e, cc)
 or-neither false b e = (refl, e)
+
+pub cond-or : {A : Type 0} (c d : Bool) (y z : A) → cond (c || d) y z ≡ cond c y (cond d y z)
+cond-or true d y z = refl
+cond-or false d y z = refl
+
+pub false-unless : (b : Bool) → (b ≡ true → ⊥) → b ≡ false
+false-unless true n = absurd (n refl)
+false-unless false n = refl
 
 module _ {A : Type 0} where
   unfoldable pub all : (A → Bool) → List A → Bool
@@ -78,6 +82,11 @@ module _ {A : Type 0} where
   unfolding any
   →any {p} (here {xs = xs} h) = or-left (any p xs) h
   →any {p} (there {x = x} h) = or-right (p x) (→any h)
+
+  -- each is there
+  pub All-units : (xs : List A) → All (λ x. Unit {0}) xs
+  All-units [] = none
+  All-units (x ∷ xs) = both tt (All-units xs)
 
   pub All-map : {P Q : A → Type 0} {xs : List A} → ((x : A) → P x → Q x) → All P xs → All Q xs
   All-map f none = none

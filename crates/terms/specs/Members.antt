@@ -1,11 +1,15 @@
--- Terms put together of formed parts, and taken apart, are formed: members and kernel of a set, the arguments of a functor.
-use Prim.Native.Nat.{ℕ}
+-- Terms put together of formed parts, and taken apart, are formed: members and kernel of a set, the arguments of a functor. And a formed unknown's
+-- number is below n.
+use Prim.Native.Nat.{ℕ, _<_}
 use mathlib.Core.List.{List}
 use Rattle.terms.specs.Lists.{All, none, both}
-use Rattle.terms.specs.Term.{Term, Terms, members, kernel, over, list}
+use Rattle.terms.specs.Term.{Term, Terms, unknown, members, kernel, over, list}
 use Rattle.terms.specs.Formed.{Formed, Formed*, formed-unknown, formed-empty, formed-with, formed-functor, formed-none, formed-more}
 
 module _ {arities : List ℕ} {n : ℕ} where
+  pub unknown-below : {i : ℕ} → Formed arities n (unknown i) → i < n
+  unknown-below (formed-unknown h) = h
+
   pub formed-members : {t : Term} → Formed arities n t → All (Formed arities n) (members t)
   unfolding members
   formed-members (formed-unknown h) = none

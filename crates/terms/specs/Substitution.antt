@@ -1,14 +1,14 @@
 -- Substitution in formed terms: it keeps them formed, changes nothing where the unknown is absent, and leaves no word of the unknown behind.
--- That it is flat on words is in `Flat`.
+-- Where an unknown occurs in a set. That substitution is flat on words is in `Flat`.
 use Prim.Native.Nat.{ℕ, _≤_}
-use mathlib.Core.Path.{_≡_, refl, _∙_}
-use mathlib.Core.List.{List}
-use mathlib.Core.Bool.{Bool, true, false, cond}
+use mathlib.Core.Path.{_≡_, refl, ap, _∙_}
+use mathlib.Core.List.{List, [], _∷_}
+use mathlib.Core.Bool.{Bool, true, false, cond, _||_}
 use native.Mathlib.Omega.{arith}
 use lib.Dec.{eqb}
 use borrow.Author.Tests.{ne-eqb}
-use Rattle.terms.specs.Lists.{cases, or-neither}
-use Rattle.terms.specs.Term.{Term, Terms, unknown, empty, with, functor, none, more, occurs, occurs*, subst, subst*, count}
+use Rattle.terms.specs.Lists.{cases, or-neither, any}
+use Rattle.terms.specs.Term.{Term, Terms, unknown, empty, with, functor, none, more, occurs, occurs*, subst, subst*, over, count}
 use Rattle.terms.specs.Formed.{Formed, Formed*, formed-unknown, formed-empty, formed-with, formed-functor, formed-none, formed-more}
 
 -- what is formed with n unknowns is formed with more
@@ -86,3 +86,9 @@ module _ (x : ℕ) (s : Term) where
     pub occurs-subst* : occurs x s ≡ false → (ts : Terms) → occurs* x (subst* x s ts) ≡ false
     occurs-subst* h none = refl
     occurs-subst* h (more t ts) = rw (occurs-subst h t) (occurs-subst* h ts)
+
+-- an unknown other than the tail of {ms|n} occurs in it where it occurs in a member
+pub occurs-over : (x n : ℕ) → (n ≡ x → ⊥) → (ms : List Term) → occurs x (over ms (unknown n)) ≡ any (occurs x) ms
+unfolding occurs over any
+occurs-over x n d [] = ne-eqb n x d
+occurs-over x n d (m ∷ ms) = ap (λ c. occurs x m || c) (occurs-over x n d ms)

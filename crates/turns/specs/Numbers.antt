@@ -18,21 +18,10 @@ module _ {A : Type 0} where
       let one : suc c ≡ c + 1 = omega arith in
       ap (λ n. drop n l) one ∙ sym (drop-drop 1 c l) ∙ ap (drop 1) e
 
-  pub drop-here : (l : List A) (c : ℕ) (d : A) → c < length l → drop c l ≡ getD l c d ∷ drop (suc c) l
-  drop-here [] c d h = absurd (omega arith)
-  drop-here (x ∷ l) zero d h = refl
-  drop-here (x ∷ l) (suc c) d h = drop-here l c d (omega arith)
-
   pub getD-first : (c : ℕ) (l : List A) (d y : A) (t : List A) → drop c l ≡ y ∷ t → getD l c d ≡ y
   getD-first c l d y t e =
       let z : c + 0 ≡ c = omega arith in
       ap (λ n. getD l n d) (sym z) ∙ sym (getD-drop c l 0 d) ∙ ap (λ r. getD r 0 d) e
-
-  pub drop-past : (l : List A) (c : ℕ) → length l ≤ c → drop c l ≡ []
-  drop-past [] zero h = refl
-  drop-past [] (suc c) h = refl
-  drop-past (x ∷ l) zero h = absurd (omega arith)
-  drop-past (x ∷ l) (suc c) h = drop-past l c (omega arith)
 
 module _ {A B : Type 0} where
   pub drop-map : (f : A → B) (c : ℕ) (l : List A) → drop c (map f l) ≡ map f (drop c l)

@@ -10,7 +10,7 @@ use borrow.Author.Tests.{ne-eqb, lt-ltb, le-ltb}
 use Rattle.terms.specs.Bounds.{Bounds}
 use Rattle.terms.specs.Kind.{takes, takes-empty, takes-member, takes-unknown, takes-functor, Worded}
 use Rattle.terms.specs.Flat.{eqb-shift}
-use Rattle.terms.specs.Lists.{any, cases}
+use Rattle.terms.specs.Lists.{any, cases, cond-or}
 use Rattle.terms.specs.Shape.{is-unknown, number}
 use Rattle.terms.specs.Term.{Term, Terms, unknown, empty, with, functor, words, words*, occurs, occurs*, count, members, kernel}
 use Rattle.terms.specs.Formed.{Formed, Formed*, formed-unknown, formed-empty, formed-with, formed-functor, formed-none, formed-more}
@@ -48,10 +48,6 @@ no-terms b arities x [] = refl
 no-terms b arities x (w ∷ ws) = refl
 
 -- ---- they agree
-
-cond-or : {A : Type 0} (c d : Bool) (y z : A) → cond (c || d) y z ≡ cond c y (cond d y z)
-cond-or true d y z = refl
-cond-or false d y z = refl
 
 module _ {b : Bounds} {arities : List ℕ} {n : ℕ} (worded : Worded b arities n) (x : ℕ) (h : x < b .unknown-words) where
   -- F looks for the word of x in terms that are due, and tells Inside where it meets it

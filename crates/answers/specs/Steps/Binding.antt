@@ -17,10 +17,11 @@ use Rattle.laws.specs.Substitution.{value-bound}
 use Rattle.laws.specs.Rank.{occurs-inside, occurs-cases, not-inside-itself}
 use Rattle.search.specs.State.{State, Node, dead, live}
 use Rattle.search.specs.Children.{replace-in, entries, others, released, kept, bound-state, bound, then-bound}
+use Rattle.search.specs.Entries.{All-entries, All-others}
 use Rattle.terms.specs.Lists.{All-first, All-unmap}
 use Rattle.answers.specs.Steps.Meaning.{HoldsNamed, MeetsState, MeetsNode, meets-live}
 
--- what all entries of x have and all others have, the whole pile has; and the other way
+-- what all entries of x have and all others have, the whole pile has
 pub of-the-pile : {P : Named → Type 0} (x : ℕ) (ns : List Named) → All (λ n. n .name ≡ x → P n) (entries x ns) → All P (others x ns) → All P ns
 unfolding entries others
 of-the-pile x [] h k = none
@@ -30,24 +31,6 @@ of-the-pile {P} x (n ∷ ns) h k = go (eqb (n .name) x) refl (λ ps qs. of-the-p
         → All (λ n. n .name ≡ x → P n) (cond c (n ∷ entries x ns) (entries x ns)) → All P (cond c (others x ns) (n ∷ others x ns)) → All P (n ∷ ns)
     go true e f (both p ps) qs = both (p (eqb-true _ _ e)) (f ps qs)
     go false e f ps (both q qs) = both q (f ps qs)
-
-pub of-entries : {P : Named → Type 0} (x : ℕ) {ns : List Named} → All P ns → All (λ n. (n .name ≡ x) × P n) (entries x ns)
-unfolding entries
-of-entries x none = none
-of-entries {P} x (both {x = n} {xs = ns} h hs) = go (eqb (n .name) x) refl (of-entries x hs)
-  where
-    go : (c : Bool) → eqb (n .name) x ≡ c → All (λ n. (n .name ≡ x) × P n) (entries x ns) → All (λ n. (n .name ≡ x) × P n) (cond c (n ∷ entries x ns) (entries x ns))
-    go true e ks = both (eqb-true _ _ e, h) ks
-    go false e ks = ks
-
-pub of-others : {P : Named → Type 0} (x : ℕ) {ns : List Named} → All P ns → All (λ n. (eqb (n .name) x ≡ false) × P n) (others x ns)
-unfolding others
-of-others x none = none
-of-others {P} x (both {x = n} {xs = ns} h hs) = go (eqb (n .name) x) refl (of-others x hs)
-  where
-    go : (c : Bool) → eqb (n .name) x ≡ c → All (λ n. (eqb (n .name) x ≡ false) × P n) (others x ns) → All (λ n. (eqb (n .name) x ≡ false) × P n) (cond c (others x ns) (n ∷ others x ns))
-    go true e ks = ks
-    go false e ks = both (e, h) ks
 
 module _ (σ : Values) (x : ℕ) (t : Term) where
   -- before and after, where x's value is t's
@@ -83,8 +66,8 @@ module _ (σ : Values) (x : ℕ) (t : Term) where
     unfolding bound-state
     bound-after st m =
         record {
-          pending = All-append (All-of-map (replace-in x t) equation-after (m .pending)) (All-of-map (released x t) entry-after (of-entries x (m .pile)));
-          pile = All-of-map (kept x t) (λ n p. other-after n (p .1)) (of-others x (m .pile));
+          pending = All-append (All-of-map (replace-in x t) equation-after (m .pending)) (All-of-map (released x t) entry-after (All-entries x (m .pile)));
+          pile = All-of-map (kept x t) (λ n p. other-after n (p .1)) (All-others x (m .pile));
           bindings = All-append (m .bindings) (both h none);
         }
 

@@ -20,10 +20,11 @@ use Rattle.search.specs.State.{State, Node, pend, renewed}
 use Rattle.search.specs.Classify.{classify}
 use Rattle.search.specs.Children.{pairwise, take, joined, join, children-by, children}
 use Rattle.search.specs.StepView.{Sided, as-written, turned-round, Stepped, drops-unknown, drops-empty, binds, postpones, decomposes, splits, dead-buried, dead-functors, dead-clash, stepped, take-bind, take-postpone}
+use Rattle.search.specs.Entries.{All-others}
 use Rattle.terms.specs.Lists.{All-first}
 use Rattle.answers.specs.Steps.Meaning.{HoldsNamed, MeetsState, meets-live}
 use Rattle.answers.specs.Steps.Parts.{after-added, after-piled}
-use Rattle.answers.specs.Steps.Binding.{of-others, never-dead, complete-bound}
+use Rattle.answers.specs.Steps.Binding.{never-dead, complete-bound}
 use Rattle.answers.specs.Steps.Pile.{joined-members}
 use Rattle.answers.specs.Steps.Kept.{FormedEquation, Kept, Entry}
 use Rattle.answers.specs.Steps.DeadEnds.{buried-never, clash-never}
@@ -67,7 +68,7 @@ module _ (σ : Values) where
     unfolding join renewed value kernel
     complete-join e es st f g h k =
         here (renew ground (ground x)
-        (complete-bound τ x (over ms N) _ (record { pending = none; pile = All-map (λ d p. p .1) (of-others x pile-met); bindings = bindings-met }) holds
+        (complete-bound τ x (over ms N) _ (record { pending = none; pile = All-map (λ d p. p .1) (All-others x pile-met); bindings = bindings-met }) holds
         (never-dead τ x (over ms N) holds (other-tail ms N refl (new-apart below)))))
       where
         x : ℕ

@@ -1,18 +1,10 @@
--- What is asked of formed terms beyond the laws of terms: arguments as a list, an unknown's number, and that an entry of the pile keeps its tail
--- when another unknown is replaced.
-use Prim.Native.Nat.{ℕ, _<_}
+-- An entry of the pile keeps its tail when another unknown is replaced.
+use Prim.Native.Nat.{ℕ}
 use mathlib.Core.Path.{_≡_}
-use mathlib.Core.List.{List}
 use mathlib.Core.Bool.{false}
 use lib.Dec.{eqb}
 use Rattle.terms.specs.Term.{Term, unknown, empty, with, functor, subst, kernel}
-use Rattle.terms.specs.Formed.{Formed, formed-unknown}
 
--- the number of a formed unknown
-pub formed-below : {arities : List ℕ} {n i : ℕ} → Formed arities n (unknown i) → i < n
-formed-below (formed-unknown l) = l
-
--- the tail stays where another unknown is replaced
 pub kernel-subst : (x : ℕ) {y : ℕ} (s v : Term) → eqb y x ≡ false → kernel v ≡ unknown y → kernel (subst x s v) ≡ unknown y
 unfolding kernel subst
 kernel-subst x {y} s (unknown i) h e = let k : i ≡ y = cc in rw (k, h)

@@ -14,16 +14,17 @@ use Rattle.terms.specs.Formed.{Formed, formed-unknown, formed-functor, Equation
 use Rattle.terms.specs.Substitution.{formed-wider, formed-subst}
 use Rattle.terms.specs.Answers.{Named}
 use Rattle.terms.specs.Listing.{Bound}
-use Rattle.terms.specs.Members.{formed-members, formed-kernel, formed-over, formed-list}
+use Rattle.terms.specs.Members.{formed-members, formed-kernel, formed-over, formed-list, unknown-below}
 use Rattle.laws.specs.Members.{kernel-over}
 use Rattle.search.specs.declared.steps.Tails.{Tails}
 use Rattle.search.specs.declared.steps.Step.{Step}
 use Rattle.search.specs.State.{State, Node, dead, live, pend, piled, renewed}
 use Rattle.search.specs.Children.{replace-in, others, released, kept, bound-state, bound, then-bound, Pick, new-equations, pile-up, settle, pairwise, take, joined, join, children-by, children}
 use Rattle.search.specs.StepView.{Tailed, neither, left, right, different, same, Sided, Stepped, drops-unknown, drops-empty, binds, postpones, decomposes, splits, dead-buried, dead-functors, dead-clash, stepped, sided-name, sided-term, take-bind, take-postpone}
-use Rattle.answers.specs.Steps.Binding.{of-entries, of-others}
+use Rattle.search.specs.Entries.{All-entries, All-others}
 use Rattle.answers.specs.Steps.Picks.{Chosen, no-choice, choice, Picks, picks-one, picks-tail, split-all, joining-all}
-use Rattle.answers.specs.Steps.Forming.{formed-below, kernel-subst}
+use Rattle.answers.specs.Steps.Forming.{kernel-subst}
+use borrow.Author.Tests.{ne-eqb}
 
 pub record FormedEquation (arities : List ℕ) (n : ℕ) (e : Equation) : Type 0 where
   pub left : Formed arities n (e .left)
@@ -95,8 +96,8 @@ module _ {arities : List ℕ} where
       record {
         in-use = k .in-use;
         pending = All-append (All-of-map (replace-in x t) (λ e g. record { left = formed-subst x t f (g .left); right = formed-subst x t f (g .right) }) (k .pending))
-            (All-of-map (released x t) (λ n p. record { left = f; right = formed-subst x t f (p .1 .formed .value) }) (of-entries x (k .pile)));
-        pile = All-of-map (kept x t) (λ n p. kept-entry x f n (p .0) (p .1)) (of-others x (k .pile));
+            (All-of-map (released x t) (λ n p. record { left = f; right = formed-subst x t f (p .1 .formed .value) }) (All-entries x (k .pile)));
+        pile = All-of-map (kept x t) (λ n p. kept-entry x f n (ne-eqb (n .name) x (p .0)) (p .1)) (All-others x (k .pile));
         bindings = All-append (k .bindings) (both (record { name = l; value = f }) none);
       }
 
@@ -136,13 +137,13 @@ module _ {arities : List ℕ} where
     kept-settle : {s r : Term} {tails : Tails} → Formed arities (st .next) s → Formed arities (st .next) r → Tailed s r tails → KeptNode arities n (settle tails s r T U es st)
     unfolding settle number pend renewed
     kept-settle fs fr (neither a b) = kept-live (kept-pend (All-append fes (both (record { left = fs; right = fr }) (k .pending))) k)
-    kept-settle fs fr (left b) = kept-bound (formed-below fs) (formed-over fU fr) kept-added
-    kept-settle fs fr (right a) = kept-bound (formed-below fr) (formed-over fT fs) kept-added
+    kept-settle fs fr (left b) = kept-bound (unknown-below fs) (formed-over fU fr) kept-added
+    kept-settle fs fr (right a) = kept-bound (unknown-below fr) (formed-over fT fs) kept-added
     kept-settle fs fr (different {x = x} {y = y} d) =
         kept-weaken (omega arith)
-        (kept-then-bound (above (formed-below fr)) (formed-subst x (over U (unknown (st .next))) (over-new fU) (over-new fT))
-        (kept-bound (above (formed-below fs)) (over-new fU) (kept-renewed kept-added)))
-    kept-settle fs fr same = kept-live (kept-pile-up (T ++ U) (formed-below fs) (All-append fT fU) kept-added)
+        (kept-then-bound (above (unknown-below fr)) (formed-subst x (over U (unknown (st .next))) (over-new fU) (over-new fT))
+        (kept-bound (above (unknown-below fs)) (over-new fU) (kept-renewed kept-added)))
+    kept-settle fs fr same = kept-live (kept-pile-up (T ++ U) (unknown-below fs) (All-append fT fU) kept-added)
 
   -- ---- a step
 
@@ -154,7 +155,7 @@ module _ {arities : List ℕ} where
 
   -- x = t, whichever side they stand on
   kept-sided : {m x : ℕ} {t l r : Term} → Sided x t l r → Formed arities m l → Formed arities m r → (x < m) × Formed arities m t
-  kept-sided {m} s f g = (formed-below (sided-name (Formed arities m) s f g), sided-term (Formed arities m) s f g)
+  kept-sided {m} s f g = (unknown-below (sided-name (Formed arities m) s f g), sided-term (Formed arities m) s f g)
 
   kept-take : {n : ℕ} {l r : Term} {k : Step} {st : State} → Formed arities (st .next) l → Formed arities (st .next) r → Stepped l r k → Kept arities n st
       → All (KeptNode arities n) (take k l r st)
@@ -182,10 +183,10 @@ module _ {arities : List ℕ} where
       both (kept-weaken {m = suc (st .next)} (omega arith) (kept-bound (above (f .formed .name)) (over-new joined-formed) (kept-renewed rest))) none
     where
       rest : Kept arities n (record { pending = []; pile = others (e .name) (e ∷ es); bindings = st .bindings; next = st .next })
-      rest = record { in-use = k .in-use; pending = none; pile = All-map (λ x p. p .1) (of-others (e .name) (both f fs)); bindings = k .bindings }
+      rest = record { in-use = k .in-use; pending = none; pile = All-map (λ x p. p .1) (All-others (e .name) (both f fs)); bindings = k .bindings }
 
       joined-formed : All (Formed arities (st .next)) (joined (e .name) (e ∷ es))
-      joined-formed = All-of-flatMap _ (λ x p. formed-members (p .1 .formed .value)) (of-entries (e .name) (both f fs))
+      joined-formed = All-of-flatMap _ (λ x p. formed-members (p .1 .formed .value)) (All-entries (e .name) (both f fs))
 
   kept-by : {n : ℕ} (es : List Equation) (st : State) → All (FormedEquation arities (st .next)) es → Kept arities n st → All (KeptNode arities n) (children-by es st)
   unfolding children-by pend

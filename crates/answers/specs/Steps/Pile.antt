@@ -12,8 +12,8 @@ use Rattle.laws.specs.Agree.{apart}
 use Rattle.laws.specs.Members.{members-over, absorbed}
 use Rattle.laws.specs.Tails.{contained}
 use Rattle.search.specs.Children.{entries, joined}
+use Rattle.search.specs.Entries.{All-entries}
 use Rattle.answers.specs.Steps.Meaning.{HoldsNamed, written}
-use Rattle.answers.specs.Steps.Binding.{of-entries}
 use Rattle.answers.specs.Steps.Kept.{Entry}
 
 -- a set has the members it is written with
@@ -47,14 +47,14 @@ module _ (σ : Values) where
   pub entries-met : {arities : List ℕ} {n : ℕ} (x : ℕ) {ns : List Named} → All (Entry arities n) ns → Within (map (value σ) (joined x ns)) (members (σ x))
       → All (λ e. e .name ≡ x → HoldsNamed σ e) (entries x ns)
   unfolding joined
-  entries-met {arities} {n} x {ns} f h = All-map go (All-both (of-entries x f) (apart-each (entries x ns) h))
+  entries-met {arities} {n} x {ns} f h = All-map go (All-both (All-entries x f) (apart-each (entries x ns) h))
     where
       go : (e : Named) → ((e .name ≡ x) × Entry arities n e) × Within (map (value σ) (members (e .value))) (members (σ x)) → e .name ≡ x → HoldsNamed σ e
       go e p same = entry-met (p .0 .1) (rw same (p .1))
 
   pub joined-members : {arities : List ℕ} {n : ℕ} (x : ℕ) {ns : List Named} → All (Entry arities n) ns → All (HoldsNamed σ) ns → Within (map (value σ) (joined x ns)) (members (σ x))
   unfolding joined
-  joined-members {arities} {n} x f h = together-each (All-map go (of-entries x (All-both f h)))
+  joined-members {arities} {n} x f h = together-each (All-map go (All-entries x (All-both f h)))
     where
       go : (e : Named) → (e .name ≡ x) × (Entry arities n e × HoldsNamed σ e) → Within (map (value σ) (members (e .value))) (members (σ x))
       go e p = rw (p .0) at (entry-members (p .1 .0) (p .1 .1))

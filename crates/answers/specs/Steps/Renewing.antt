@@ -3,24 +3,21 @@
 use Prim.Native.Nat.{ℕ, _<_}
 use mathlib.Core.Path.{_≡_, refl}
 use mathlib.Core.List.{List}
-use mathlib.Core.Bool.{false}
 use borrow.Author.Tests.{eq-eqb, ne-eqb}
 use native.Mathlib.Omega.{arith}
-use Rattle.terms.specs.Lists.{cases, All-map, All-both}
-use Rattle.terms.specs.Term.{Term, occurs}
+use Rattle.terms.specs.Lists.{All-map, All-both}
+use Rattle.terms.specs.Term.{Term}
 use Rattle.terms.specs.Formed.{Formed, Ground, Equation}
 use Rattle.terms.specs.Answers.{Named}
 use Rattle.terms.specs.Listing.{Bound}
+use Rattle.terms.specs.Substitution.{absent-above}
 use Rattle.laws.specs.Laws.{_≈_, ≈sym, ≈trans}
 use Rattle.laws.specs.Values.{Values, value, given, GroundValues, Holds}
-use Rattle.laws.specs.Substitution.{value-given, occurs-below}
+use Rattle.laws.specs.Substitution.{value-given}
 use Rattle.laws.specs.Solving.{ground-given}
 use Rattle.search.specs.State.{State, Node}
 use Rattle.answers.specs.Steps.Meaning.{HoldsNamed, MeetsState, MeetsNode}
 use Rattle.answers.specs.Steps.Kept.{FormedEquation, Kept}
-
-absent-new : {arities : List ℕ} {n : ℕ} {t : Term} → Formed arities n t → occurs n t ≡ false
-absent-new {n = n} {t} f = cases (occurs n t) (λ o. let h = occurs-below f n o in absurd (omega arith)) (λ o. o)
 
 pub given-other : (x : ℕ) (v : Term) (σ : Values) (i : ℕ) → i < x → given x v σ i ≡ σ i
 unfolding given
@@ -33,7 +30,7 @@ given-new x v σ = rw (eq-eqb x x refl)
 -- it changes nothing that the state says
 module _ {arities : List ℕ} (σ : Values) (n : ℕ) (v : Term) where
   value-new : {t : Term} → Formed arities n t → value (given n v σ) t ≈ value σ t
-  value-new {t} f = value-given σ n v t (absent-new f)
+  value-new {t} f = value-given σ n v t (absent-above n (omega arith) f)
 
   pub holds-new : (e : Equation) → FormedEquation arities n e → Holds σ e → Holds (given n v σ) e
   holds-new e f h = ≈trans (value-new (f .left)) (≈trans h (≈sym (value-new (f .right))))

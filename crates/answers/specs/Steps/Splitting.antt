@@ -16,7 +16,7 @@ use Rattle.laws.specs.Laws.{_≈_, ≈sym, ≈trans}
 use Rattle.laws.specs.Values.{Values, value, given, GroundValues, Solves}
 use Rattle.laws.specs.Members.{kernel-over, kernel-kernel}
 use Rattle.laws.specs.Substitution.{value-bound}
-use Rattle.terms.specs.Members.{formed-kernel}
+use Rattle.terms.specs.Members.{formed-kernel, unknown-below}
 use Rattle.laws.specs.Tails.{Met, met, those-in, shared, formed-shared, complete-neither, complete-left, complete-right, complete-different-left, complete-different-right, complete-same}
 use Rattle.search.specs.declared.steps.Tails.{Tails}
 use Rattle.search.specs.State.{State, pend}
@@ -26,7 +26,7 @@ use Rattle.answers.specs.Steps.Meaning.{MeetsState, MeetsNode, meets-liv
 use Rattle.answers.specs.Steps.Parts.{after-added, after-renewed, after-pile-up}
 use Rattle.answers.specs.Steps.Binding.{never-dead, complete-bound, complete-then-bound}
 use Rattle.answers.specs.Steps.Picks.{split-any, best-joining, best-equations}
-use Rattle.answers.specs.Steps.Forming.{kernel-subst, formed-below}
+use Rattle.answers.specs.Steps.Forming.{kernel-subst}
 use Rattle.answers.specs.Steps.Kept.{Kept}
 use Rattle.answers.specs.Steps.Renewing.{given-other, given-new, holds-new, meets-new, Reaches, renew}
 
@@ -78,8 +78,8 @@ module _ (σ : Values) where
         let h : σ x ≈ value σ (over U N) = values-over σ U N eU (rw e (complete-different-left m)) in
         let g : σ y ≈ value σ (over T N) = values-over σ T N eT (rw e (complete-different-right m)) in
         let f : σ y ≈ value σ (subst x (over U N) (over T N)) = ≈trans g (≈sym (value-bound σ x (over U N) (over T N) h)) in
-        let apart-x : unknown (st .next) ≡ unknown x → ⊥ = new-apart (formed-below (left-tail .formed)) in
-        let apart-y : unknown (st .next) ≡ unknown y → ⊥ = new-apart (formed-below (right-tail .formed)) in
+        let apart-x : unknown (st .next) ≡ unknown x → ⊥ = new-apart (unknown-below (left-tail .formed)) in
+        let apart-y : unknown (st .next) ≡ unknown y → ⊥ = new-apart (unknown-below (right-tail .formed)) in
         let ne : eqb (st .next) x ≡ false = ne-eqb _ _ (λ q. apart-x (ap unknown q)) in
         let tail : kernel (subst x (over U N) (over T N)) ≡ N = kernel-subst x (over U N) (over T N) ne (kernel-over T N) in
         complete-then-bound σ y (subst x (over U N) (over T N)) _
@@ -114,7 +114,7 @@ complete-split {arities} σ {t} {u} {k} {st} f g kept d ground h m =
     sets = met (rw (written τ t, written τ u) at (holds-new σ (st .next) v (record { left = t; right = u }) (record { left = f; right = g }) h))
 
     unchanged : {i : ℕ} {s : Term} → Formed arities (st .next) s → s ≡ unknown i → σ (number s) ≡ τ i
-    unchanged {i} fs e = rw e (sym (given-other (st .next) v σ i (formed-below (rw e at fs))))
+    unchanged {i} fs e = rw e (sym (given-other (st .next) v σ i (unknown-below (rw e at fs))))
 
     new : (i j : ℕ) → kernel t ≡ unknown i → kernel u ≡ unknown j → τ (st .next) ≡ shared (τ i) (τ j)
     new i j p q = given-new (st .next) v σ ∙ ap₂ shared (unchanged (formed-kernel f) p) (unchanged (formed-kernel g) q)

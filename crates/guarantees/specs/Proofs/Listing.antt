@@ -13,7 +13,7 @@ use Rattle.room.specs.Room.{put-eq}
 use Rattle.terms.specs.Bounds.{edition-one, edition-one-proper}
 use Rattle.terms.specs.Lists.{All, none, both, cases}
 use Rattle.terms.specs.Formed.{Question}
-use Rattle.terms.specs.Answers.{Named, answer-words, listed}
+use Rattle.terms.specs.Answers.{Named, answer-words, listed, listed-append}
 use Rattle.checks.specs.Check.{above}
 use Rattle.checks.specs.Lent.{Table, Answered, answered-check-answers, answers-back}
 use Rattle.terms.specs.Listing.{Bound, list-words, answers-of}
@@ -29,8 +29,7 @@ use Rattle.search.specs.Ends.{end-number, end-of}
 use Rattle.search.specs.Lent.{most-steps}
 use Rattle.search.specs.Run.{Loan, Outcome, Visit, Verdict, stops, overflows, goes-on, found, found-size, ends, verdict, spend, after, scan, ran}
 use Rattle.answers.specs.Fits.{States}
-use Rattle.promises.specs.Runs.Verdicts.{Judged, counted, judged}
-use Rattle.promises.specs.Runs.Lending.{listed-append}
+use Rattle.search.specs.Verdicts.{Judged, counted, judged}
 use Rattle.pen.specs.Pen.{counted as as-counted}
 use Rattle.pen.specs.Depths.{First, all-within, first-at}
 use Rattle.writer.specs.Written.{check-list, tested, nested, fitted, list-written}

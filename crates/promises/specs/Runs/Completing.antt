@@ -10,7 +10,7 @@ use Rattle.search.specs.declared.ends.End.the-variants.{Done}
 use Rattle.search.specs.Run.{Loan, Visit, visits, root, spend, scan, ran}
 use Rattle.promises.specs.Wording.{NoLess, whole}
 use Rattle.promises.specs.Runs.Agreeing.{Agreeing, at-end, alike, too-deep, visits-agreeing}
-use Rattle.promises.specs.Runs.Verdicts.{done-first}
+use Rattle.search.specs.Verdicts.{done-first}
 use Rattle.promises.specs.Runs.Visiting.{scan-whole, whole-scan, enough-for, enough-lent}
 use Rattle.promises.specs.Runs.Tree.{Formed-question}
 use Rattle.promises.specs.Runs.Ending.{visits-settle}

@@ -6,13 +6,13 @@ use mathlib.Core.List.{List, [], _∷_, _++_, append-assoc}
 use native.Mathlib.Omega.{arith}
 use Rattle.terms.specs.Bounds.{Bounds}
 use Rattle.terms.specs.Formed.{Question}
-use Rattle.terms.specs.Answers.{listed}
+use Rattle.terms.specs.Answers.{listed, listed-append}
 use Rattle.search.specs.declared.ends.End.{End}
 use Rattle.search.specs.declared.ends.End.the-variants.{Done}
 use Rattle.search.specs.Run.{Loan, Outcome, Visit, Verdict, stops, overflows, goes-on, root, found, verdict, spend, after, scan, ran}
 use Rattle.promises.specs.Wording.{NoLess, Begins, followed-by}
 use Rattle.promises.specs.Runs.Agreeing.{Agreeing, at-end, alike, too-deep, visits-agreeing}
-use Rattle.promises.specs.Runs.Verdicts.{Allows, Judged, counted, judged, allowed, stops-not-done, space-not-done}
+use Rattle.search.specs.Verdicts.{Allows, Judged, counted, judged, allowed, stops-not-done, space-not-done}
 
 -- what is no less lets the same nodes pass, and is no less after them
 allows-more : {b : Bounds} {l m : Loan} {v : Visit} → NoLess l m → Allows b l v → Allows b m v
@@ -62,11 +62,6 @@ scan-more b (too-deep {v = v} {vs = vs} {ws = ws} h) l m e w = scan-node b l m v
 pub more-lent : (b : Bounds) (q : Question) (l m : Loan) → NoLess l m → Repeats (ran b q l) (ran b q m)
 unfolding ran
 more-lent b q l m w = scan-more b (visits-agreeing (l .depth) (l .depth + 2) (m .depth + 2) 0 (root q) (omega arith) (omega arith) (omega arith)) l m refl w
-
-pub listed-append : (xs ys : List (List ℕ)) → listed (xs ++ ys) ≡ listed xs ++ listed ys
-unfolding listed
-listed-append [] ys = refl
-listed-append (x ∷ xs) ys = ap (λ l. x ++ l) (listed-append xs ys) ∙ sym (append-assoc x (listed xs) (listed ys))
 
 -- word for word
 pub listed-begins : {xs ys : List (List ℕ)} → Begins xs ys → Begins (listed xs) (listed ys)

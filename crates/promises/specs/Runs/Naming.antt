@@ -20,7 +20,7 @@ use Rattle.promises.specs.States.Orderly.{named, Orderly, usable-unbound
 use Rattle.promises.specs.States.Weight.{weights}
 use Rattle.promises.specs.States.Falling.{unbound, waiting, Falls, ends-dead, fewer-unbound, lighter, shorter}
 use Rattle.promises.specs.States.Joining.{children-fall}
-use Rattle.promises.specs.Runs.Verdicts.{Judged, steps-spent, too-deep, too-many-names, too-large, judged}
+use Rattle.search.specs.Verdicts.{Judged, steps-spent, too-deep, too-many-names, too-large, judged}
 use Rattle.promises.specs.Runs.Visiting.{Live, is-dead, is-live, visits-each}
 use Rattle.promises.specs.Runs.Tree.{Formed-question, start, start-orderly}
 

@@ -6,15 +6,14 @@ use mathlib.Core.List.{List, [], _∷_}
 use lib.ListN.{length, length-append}
 use native.Mathlib.Omega.{arith}
 use Rattle.terms.specs.Bounds.{Bounds}
-use Rattle.terms.specs.Lists.{All, none as all-none, both, All-map, All-of-flatMap}
-use Rattle.terms.specs.Answers.{listed}
+use Rattle.terms.specs.Lists.{All, none as all-none, both, All-map, All-of-flatMap, All-units, All-first, All-rest}
+use Rattle.terms.specs.Answers.{listed, listed-append}
 use Rattle.search.specs.declared.ends.End.the-variants.{Done}
 use Rattle.search.specs.State.{State, Node, dead, live}
 use Rattle.search.specs.Children.{children}
 use Rattle.search.specs.Run.{Loan, Visit, goes-on, visit, dead-visit, visits, found, found-size, spend, after, scan}
 use Rattle.promises.specs.Wording.{NoLess, all-found, whole}
-use Rattle.promises.specs.Runs.Verdicts.{Allows, allowed, done-first}
-use Rattle.promises.specs.Runs.Lending.{listed-append}
+use Rattle.search.specs.Verdicts.{Allows, allowed, done-first}
 
 -- a dead end, or a state that has I
 pub data Live (I : State → Type 0) : Node → Type 0 where
@@ -37,11 +36,7 @@ unfolding visits visit dead-visit
 visits-above zero d node = all-none
 visits-above (suc n) d dead = both {x = dead-visit d} (omega arith) all-none
 visits-above (suc n) d (live st) =
-    both {x = visit d st} (omega arith) (All-of-flatMap _ (λ c h. All-map (λ v k. omega arith) (visits-above n (suc d) c)) (each (children st)))
-  where
-    each : (ns : List Node) → All (λ c. Node) ns
-    each [] = all-none
-    each (c ∷ cs) = both c (each cs)
+    both {x = visit d st} (omega arith) (All-of-flatMap _ (λ c h. All-map (λ v k. omega arith) (visits-above n (suc d) c)) (All-units (children st)))
 
 -- ---- a run that gives the whole
 
@@ -52,12 +47,6 @@ pub record Enough (b : Bounds) (l : Loan) (vs : List Visit) : Type 0 where
   pub names : All (λ v. v .next ≤ b .path-unknowns) vs
   pub size : All (λ v. v .size ≤ l .size) vs
   pub space : length (listed (all-found b vs)) ≤ l .space
-
-All-first : {A : Type 0} {P : A → Type 0} {x : A} {xs : List A} → All P (x ∷ xs) → P x
-All-first (both h hs) = h
-
-All-rest : {A : Type 0} {P : A → Type 0} {x : A} {xs : List A} → All P (x ∷ xs) → All P xs
-All-rest (both h hs) = hs
 
 found-more : (b : Bounds) (v : Visit) (vs : List Visit) → length (listed (all-found b (v ∷ vs))) ≡ found-size b v + length (listed (all-found b vs))
 unfolding all-found found-size

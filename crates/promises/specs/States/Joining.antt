@@ -15,23 +15,15 @@ use Rattle.terms.specs.Formed.{Equation}
 use Rattle.terms.specs.Answers.{Named}
 use Rattle.laws.specs.Substitution.{or-else}
 use Rattle.search.specs.State.{State, Node, pend, renewed}
-use Rattle.search.specs.Children.{entries, others, kept, bound-state, joined, join, children-by, children}
+use Rattle.search.specs.Children.{others, kept, bound-state, joined, join, children-by, children}
 use Rattle.search.specs.StepView.{stepped, Bound-to, bound-inside, bound-once, bound-to}
+use Rattle.search.specs.Entries.{entries-others, All-entries, All-others}
 use Rattle.promises.specs.States.Tally.{tally-fewer, tally-refused}
-use Rattle.promises.specs.States.Orderly.{named, named-fresh, All-entries, All-others, Usable, Usable-entry, Usable-sides, Orderly, usable-below, usable-members, usable-over, usable-renewed, orderly-pend, orderly-renewed, orderly-bound}
+use Rattle.promises.specs.States.Orderly.{named, named-fresh, Usable, Usable-entry, Usable-sides, Orderly, usable-below, usable-members, usable-over, usable-renewed, orderly-pend, orderly-renewed, orderly-bound}
 use Rattle.promises.specs.States.Weight.{weight, weights, equation-size}
 use Rattle.promises.specs.States.Falling.{unbound, waiting, Falls, ends-dead, shorter, bound-fewer, renewed-more, usable-new, falls-taken}
 
 -- ---- the entries of x, and the others
-
-pub entries-others : (x : ℕ) (ns : List Named) → entries x (others x ns) ≡ []
-unfolding entries others
-entries-others x [] = refl
-entries-others x (n ∷ ns) = go (eqb (n .name) x) refl (entries-others x ns)
-  where
-    go : (c : Bool) → eqb (n .name) x ≡ c → entries x (others x ns) ≡ [] → entries x (cond c (others x ns) (n ∷ others x ns)) ≡ []
-    go true e h = h
-    go false e h = rw e h
 
 others-length : (x : ℕ) (ns : List Named) → length (others x ns) ≤ length ns
 unfolding others
@@ -64,7 +56,7 @@ named-apart y (both {x = n} d ds) = rw (ne-eqb (n .name) y d) (named-apart y ds)
 
 joined-each : {P : Term → Type 0} (x : ℕ) {ns : List Named} → All (λ n. All P (members (n .value))) ns → All P (joined x ns)
 unfolding joined
-joined-each x hs = All-of-flatMap _ (λ n h. h) (All-entries x hs)
+joined-each x hs = All-of-flatMap _ (λ n h. h .1) (All-entries x hs)
 
 -- ---- the join
 
@@ -92,11 +84,11 @@ module _ {arities : List ℕ} (st : State) (n : Named) (ns : List Named) (o : Or
   value-usable = usable-over (joined-each (n .name) (All-map (λ m h. usable-members (usable-renewed (h .value))) entries-usable)) (usable-new o)
 
   -- what stays in the pile, each apart from the unknown
-  others-usable : All (λ m. Usable-entry arities (st .next) (st .bindings) m × (m .name ≡ n .name → ⊥)) (others (n .name) (n ∷ ns))
+  others-usable : All (λ m. (m .name ≡ n .name → ⊥) × Usable-entry arities (st .next) (st .bindings) m) (others (n .name) (n ∷ ns))
   others-usable = All-others (n .name) entries-usable
 
   rest-orderly : Orderly arities (rest st n ns)
-  rest-orderly = record { pending = all-none; pile = All-map (λ m h. h .0) others-usable; bindings = o .bindings; solved = o .solved }
+  rest-orderly = record { pending = all-none; pile = All-map (λ m h. h .1) others-usable; bindings = o .bindings; solved = o .solved }
 
   after-pending : (after st n ns) .pending ≡ []
   unfolding bound-state renewed
@@ -120,12 +112,12 @@ module _ {arities : List ℕ} (st : State) (n : Named) (ns : List Named) (o : Or
   unfolding waiting bound-state renewed
   after-waiting =
       let left : List Named = others (n .name) (n ∷ ns) in
-      let used : All (λ m. (Usable-entry arities (st .next) (st .bindings) m × (m .name ≡ n .name → ⊥)) × (m .name ≡ n .name → ⊥)) (others (n .name) left) = All-others (n .name) others-usable in
+      let used : All (λ m. (m .name ≡ n .name → ⊥) × ((m .name ≡ n .name → ⊥) × Usable-entry arities (st .next) (st .bindings) m)) (others (n .name) left) = All-others (n .name) others-usable in
       omega (
         arith,
-        tally-refused (st .next) (λ y. named y ((after st n ns) .pile)) (named-after-join (st .next) ∙ named-fresh (st .next) (omega arith) (All-map (λ m h. usable-below (h .0 .0 .name)) used)),
+        tally-refused (st .next) (λ y. named y ((after st n ns) .pile)) (named-after-join (st .next) ∙ named-fresh (st .next) (omega arith) (All-map (λ m h. usable-below (h .1 .1 .name)) used)),
         tally-fewer (st .next) {p = λ y. named y ((after st n ns) .pile)} {q = λ y. named y (st .pile)} (n .name) (usable-below name-usable)
-            (named-after-join (n .name) ∙ named-apart (n .name) (All-map (λ m h. h .1) used)) (ap (λ l. named (n .name) l) is ∙ named-first n ns)
+            (named-after-join (n .name) ∙ named-apart (n .name) (All-map (λ m h. h .0) used)) (ap (λ l. named (n .name) l) is ∙ named-first n ns)
             (λ y l e. ap (λ l. named y l) is ∙ named-others (n .name) y (n ∷ ns) (named-others (n .name) y left (sym (named-after-join y) ∙ e))),
       )
 

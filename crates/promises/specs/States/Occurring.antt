@@ -33,11 +33,11 @@ list-within none = all-none
 list-within (more t ts) = both (λ y o. or-left (occurs* y ts) o) (All-map (λ n h y o. or-right (occurs y t) (h y o)) (list-within ts))
 
 -- what each member and the kernel have, their set has
-pub occurs-over : {Q : ℕ → Type 0} {ms : List Term} (k : Term) → All (λ m. (y : ℕ) → occurs y m ≡ true → Q y) ms → ((y : ℕ) → occurs y k ≡ true → Q y) → (y : ℕ)
+pub over-each : {Q : ℕ → Type 0} {ms : List Term} (k : Term) → All (λ m. (y : ℕ) → occurs y m ≡ true → Q y) ms → ((y : ℕ) → occurs y k ≡ true → Q y) → (y : ℕ)
     → occurs y (over ms k) ≡ true → Q y
 unfolding over occurs
-occurs-over k all-none g y o = g y o
-occurs-over k (both {x = m} {xs = ms} h hs) g y o = or-else (occurs y m) (occurs y (over ms k)) (h y) (λ p. occurs-over k hs g y p) o
+over-each k all-none g y o = g y o
+over-each k (both {x = m} {xs = ms} h hs) g y o = or-else (occurs y m) (occurs y (over ms k)) (h y) (λ p. over-each k hs g y p) o
 
 -- an unknown that occurs after s is put for x
 pub data Put (x : ℕ) (s : Term) (y : ℕ) (was : Bool) : Type 0 where

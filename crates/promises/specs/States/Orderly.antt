@@ -5,18 +5,20 @@ use mathlib.Core.Path.{_≡_, refl, ap, _∙_, sym}
 use mathlib.Core.List.{List, [], _∷_, _++_}
 use mathlib.Core.Bool.{Bool, true, false, false≢true}
 use lib.Dec.{eqb}
-use borrow.Author.Tests.{eqb-true, eqb-false, eq-eqb, ne-eqb}
+use borrow.Author.Tests.{eqb-true, eq-eqb, ne-eqb}
 use native.Mathlib.Omega.{arith}
 use Rattle.terms.specs.Lists.{All, Any, none as all-none, both, here, there, any, →any, All-map, All-both, All-append, All-self, All-of-map, cases, or-neither}
 use Rattle.terms.specs.Term.{Term, Terms, unknown, functor, members, kernel, over, list, occurs, subst}
 use Rattle.terms.specs.Formed.{Formed, formed-unknown, formed-functor, Equation}
 use Rattle.terms.specs.Answers.{Named}
-use Rattle.terms.specs.Members.{formed-members, formed-kernel, formed-over, formed-list}
+use Rattle.terms.specs.Members.{formed-members, formed-kernel, formed-over, formed-list, unknown-below}
 use Rattle.terms.specs.Substitution.{formed-wider, formed-subst}
+use Rattle.terms.specs.Listing.{Bound}
 use Rattle.search.specs.State.{State, pend, piled, renewed}
-use Rattle.search.specs.Children.{replace-in, entries, others, released, kept, bound-state}
-use Rattle.promises.specs.Wording.{Solved, nothing-bound, first-bound, Formed-line}
-use Rattle.promises.specs.States.Occurring.{Put, from-put, from-other, members-within, kernel-within, list-within, occurs-over, occurs-subst}
+use Rattle.search.specs.Children.{replace-in, released, kept, bound-state}
+use Rattle.search.specs.Entries.{All-entries, All-others}
+use Rattle.promises.specs.Wording.{Solved, nothing-bound, first-bound}
+use Rattle.promises.specs.States.Occurring.{Put, from-put, from-other, members-within, kernel-within, list-within, over-each, occurs-subst}
 
 -- ---- what is asked
 
@@ -40,7 +42,7 @@ pub record Usable-entry (arities : List ℕ) (n : ℕ) (bs : List Named) (m : Na
 pub record Orderly (arities : List ℕ) (st : State) : Type 0 where
   pub pending : All (Usable-sides arities (st .next) (st .bindings)) (st .pending)
   pub pile : All (Usable-entry arities (st .next) (st .bindings)) (st .pile)
-  pub bindings : All (Formed-line arities (st .next)) (st .bindings)
+  pub bindings : All (Bound arities (st .next)) (st .bindings)
   pub solved : Solved (st .bindings)
 
 -- ---- the names of lines
@@ -80,10 +82,7 @@ named-fresh y l (both {x = b} h hs) = rw (ne-eqb (b .name) y (λ e. omega arith)
 
 module _ {arities : List ℕ} {n : ℕ} {bs : List Named} where
   pub usable-below : {x : ℕ} → Usable arities n bs (unknown x) → x < n
-  usable-below u = go (u .formed)
-    where
-      go : {x : ℕ} → Formed arities n (unknown x) → x < n
-      go (formed-unknown l) = l
+  usable-below u = unknown-below (u .formed)
 
   pub usable-unbound : {x : ℕ} → Usable arities n bs (unknown x) → named x bs ≡ false
   unfolding occurs
@@ -111,7 +110,7 @@ module _ {arities : List ℕ} {n : ℕ} {bs : List Named} where
   usable-over {k = k} us u =
       record {
         formed = formed-over (All-map (λ m h. h .formed) us) (u .formed);
-        unbound = occurs-over k (All-map (λ m h. h .unbound) us) (u .unbound);
+        unbound = over-each k (All-map (λ m h. h .unbound) us) (u .unbound);
       }
 
   pub usable-renewed : {t : Term} → Usable arities n bs t → Usable arities (suc n) bs t
@@ -130,17 +129,6 @@ module _ {arities : List ℕ} {n : ℕ} {bs : List Named} where
         go y (from-other d o) = named-after y x s bs d (u .unbound y o)
 
 -- ---- states
-
--- the entries of a pile, and its others
-pub All-entries : {P : Named → Type 0} (x : ℕ) {ns : List Named} → All P ns → All P (entries x ns)
-unfolding entries
-All-entries x all-none = all-none
-All-entries {P} x (both {x = n} {xs = ns} h hs) = cases (eqb (n .name) x) (λ e. rw e (both h (All-entries x hs))) (λ e. rw e (All-entries x hs))
-
-pub All-others : {P : Named → Type 0} (x : ℕ) {ns : List Named} → All P ns → All (λ n. P n × (n .name ≡ x → ⊥)) (others x ns)
-unfolding others
-All-others x all-none = all-none
-All-others x (both {x = n} h hs) = cases (eqb (n .name) x) (λ e. rw e (All-others x hs)) (λ e. rw e (both (h, eqb-false (n .name) x e) (All-others x hs)))
 
 solved-after : (x : ℕ) (t : Term) {bs : List Named} → Solved bs → occurs x t ≡ false → All (λ m. (x ≡ m .name → ⊥) × (occurs (m .name) t ≡ false)) bs
     → Solved (bs ++ (record { name = x; value = t } ∷ []))
@@ -187,8 +175,8 @@ module _ {arities : List ℕ} where
       record {
         pending =
             All-append (All-of-map _ (λ e w. record { left = put (w .left); right = put (w .right) }) (o .pending))
-            (All-of-map _ (λ m w. record { left = usable-bound x a v; right = put (w .value) }) (All-entries x (o .pile)));
-        pile = All-of-map _ (λ m w. record { name = still m (w .0 .name) (w .1); value = put (w .0 .value) }) (All-others x (o .pile));
+            (All-of-map _ (λ m w. record { left = usable-bound x a v; right = put (w .1 .value) }) (All-entries x (o .pile)));
+        pile = All-of-map _ (λ m w. record { name = still m (w .1 .name) (w .0); value = put (w .1 .value) }) (All-others x (o .pile));
         bindings = All-append (o .bindings) (both (record { name = usable-below u; value = v .formed }) all-none);
         solved = solved-bound x (o .solved) a u v;
       }

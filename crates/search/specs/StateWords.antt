@@ -1,0 +1,58 @@
+-- A state in words: its pending equations' sides, left, right, left, right .., then its pile, then its bindings. It has as many words as its size says.
+use Prim.Native.Nat.{ℕ, _+_}
+use mathlib.Core.Path.{_≡_, refl}
+use mathlib.Core.List.{List, [], _∷_, _++_}
+use native.Mathlib.Omega.{arith}
+use lib.ListN.{length, length-append}
+use Rattle.terms.specs.Bounds.{Bounds}
+use Rattle.terms.specs.Term.{words}
+use Rattle.terms.specs.Formed.{Equation, sides, row}
+use Rattle.terms.specs.Answers.{Named, binding-words, pile-words}
+use Rattle.terms.specs.Flat.{length-words}
+use Rattle.search.specs.State.{State, size-equations, size-named, state-size}
+
+unfoldable pub pending-words : Bounds → List Equation → List ℕ
+pending-words b es = row b (sides es)
+
+unfoldable pub state-words : Bounds → State → List ℕ
+state-words b st = pending-words b (st .pending) ++ (pile-words b (st .pile) ++ binding-words b (st .bindings))
+
+-- ---- how long they are
+
+module _ (b : Bounds) where
+  pub length-pending : (es : List Equation) → length (pending-words b es) ≡ size-equations es
+  unfolding pending-words row sides size-equations
+  length-pending [] = refl
+  length-pending (e ∷ es) =
+      omega (
+        arith,
+        length-append (words b (e .left)) (words b (e .right) ++ row b (sides es)),
+        length-append (words b (e .right)) (row b (sides es)),
+        length-words b (e .left),
+        length-words b (e .right),
+        length-pending es,
+      )
+
+  pub length-pile : (ns : List Named) → length (pile-words b ns) ≡ size-named ns
+  unfolding pile-words size-named
+  length-pile [] = refl
+  length-pile (n ∷ ns) =
+      omega (arith, length-append (words b (n .value)) (pile-words b ns), length-words b (n .value), length-pile ns)
+
+  pub length-bindings : (ns : List Named) → length (binding-words b ns) ≡ size-named ns
+  unfolding binding-words size-named
+  length-bindings [] = refl
+  length-bindings (n ∷ ns) =
+      omega (arith, length-append (words b (n .value)) (binding-words b ns), length-words b (n .value), length-bindings ns)
+
+  pub length-state : (st : State) → length (state-words b st) ≡ state-size st
+  unfolding state-words state-size
+  length-state st =
+      omega (
+        arith,
+        length-append (pending-words b (st .pending)) (pile-words b (st .pile) ++ binding-words b (st .bindings)),
+        length-append (pile-words b (st .pile)) (binding-words b (st .bindings)),
+        length-pending (st .pending),
+        length-pile (st .pile),
+        length-bindings (st .bindings),
+      )
