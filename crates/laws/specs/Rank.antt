@@ -7,9 +7,8 @@ use mathlib.Core.Logic.{_⊎_, inl, inr}
 use borrow.Author.Tests.{eqb-true}
 use native.Mathlib.Nat.{le-refl}
 use native.Mathlib.Omega.{arith}
-use Rattle.terms.specs.Lists.{All, none as all-none, both, All-map, or-left, or-right}
+use Rattle.terms.specs.Lists.{All, none as all-none, both, All-map, or-left, or-right, or-else}
 use Rattle.terms.specs.Term.{Term, Terms, unknown, empty, with, functor, none, more, members, kernel, list, occurs, occurs*}
-use Rattle.laws.specs.Substitution.{or-else}
 use Rattle.laws.specs.Values.{Values, value, value*}
 use Rattle.laws.specs.Laws.{_≈_, _≈*_, absorb, exchange, ≈with, ≈functor, ≈refl, ≈sym, ≈trans, ≈none, ≈more}
 

@@ -3,12 +3,12 @@
 use Prim.Native.Nat.{ℕ, suc, _<_}
 use mathlib.Core.Path.{_≡_, refl, ap, ap₂, _∙_, sym}
 use mathlib.Core.List.{List, [], _∷_, _++_, map}
-use mathlib.Core.Bool.{Bool, true, false, false≢true, _||_, cond}
+use mathlib.Core.Bool.{Bool, true, false, false≢true, cond}
 use lib.Dec.{eqb}
 use lib.ListN.{length, length-append, getD, List·getD-append}
 use borrow.Author.Tests.{eqb-true, eq-eqb}
 use native.Mathlib.Omega.{arith}
-use Rattle.terms.specs.Lists.{or-left, or-right}
+use Rattle.terms.specs.Lists.{or-left, or-right, or-else}
 use Rattle.terms.specs.Term.{Term, Terms, unknown, empty, with, functor, none, more, members, kernel, over, occurs, occurs*, subst, subst*, count}
 use Rattle.terms.specs.Formed.{Formed, Formed*, formed-unknown, formed-empty, formed-with, formed-functor, formed-none, formed-more}
 use Rattle.laws.specs.Laws.{_≈_, _≈*_, absorb, exchange, ≈with, ≈functor, ≈refl, ≈sym, ≈trans, ≈none, ≈more}
@@ -33,10 +33,6 @@ kernel-value σ (unknown i) = refl
 kernel-value σ empty = refl
 kernel-value σ (with m r) = kernel-value σ r
 kernel-value σ (functor k ts) = refl
-
-pub or-else : {P : Type 0} (a b : Bool) → (a ≡ true → P) → (b ≡ true → P) → (a || b) ≡ true → P
-or-else true b f g o = f refl
-or-else false b f g o = g o
 
 -- a term put for an unknown
 value-cond : (σ : Values) (b : Bool) (s t : Term) → value σ (cond b s t) ≡ cond b (value σ s) (value σ t)

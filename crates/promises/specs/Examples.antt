@@ -13,7 +13,7 @@ use Rattle.search.specs.Run.{Loan, visits, root, ran}
 use Rattle.search.specs.Specimens.{a, x0, arities, asks, lending, ample, computing}
 use Rattle.search.specs.StateWords.{state-words}
 use Rattle.promises.specs.Wording.{NoLess, Begins, whole, Answers-in-form}
-use Rattle.promises.specs.Runs.Tree.{start}
+use Rattle.invariants.specs.Tree.{start}
 use Rattle.promises.specs.Promises
 
 -- x0 = {a|x0}, which is good

@@ -1,9 +1,8 @@
--- What follows of searches and runs: more lent, same list (`Agreeing`, `Lending`); the tree from the root on (`Visiting`, `Tree`); that it
+-- What follows of searches and runs: more lent, same list (`Agreeing`, `Lending`); the visits of a tree (`Visiting`); that it
 -- ends (`Measures`, `Ending`, `Completing`); names, the form of answers.
 pub mod Agreeing
 pub mod Lending
 pub mod Visiting
-pub mod Tree
 pub mod Measures
 pub mod Ending
 pub mod Naming

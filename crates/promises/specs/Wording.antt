@@ -1,16 +1,15 @@
--- The words in which the promises are put. Whatever else they name is a definition of `terms` or of `search`.
+-- The words in which the promises are put. Whatever else they name is a definition of `terms` or of `search`, and `Solved` of `invariants`.
 use Prim.Native.Nat.{ℕ, _+_, _≤_}
 use mathlib.Core.Path.{_≡_}
 use mathlib.Core.List.{List, [], _∷_, _++_}
-use mathlib.Core.Bool.{false}
 use lib.ListN.{length}
 use Rattle.terms.specs.Bounds.{Bounds}
 use Rattle.terms.specs.Lists.{All}
-use Rattle.terms.specs.Term.{occurs}
 use Rattle.terms.specs.Answers.{Named, answer-words}
 use Rattle.terms.specs.Listing.{Bound}
 use Rattle.search.specs.declared.ends.End.the-variants.{Done}
 use Rattle.search.specs.Run.{Loan, Outcome, Visit, found}
+use Rattle.invariants.specs.Solved.{Solved}
 
 -- ---- of two runs
 
@@ -37,16 +36,6 @@ unfoldable pub whole : Bounds → List Visit → Outcome
 whole b vs = record { end = Done; visited = length vs; answers = all-found b vs }
 
 -- ---- of an answer
-
--- each unknown is bound once, and is mentioned neither in its own line nor in a later one
-pub data Solved : List Named → Type 0 where
-  nothing-bound : Solved []
-  first-bound :
-      {n : Named} {ns : List Named}
-      → occurs (n .name) (n .value) ≡ false
-      → All (λ m. (m .name ≡ n .name → ⊥) × (occurs (n .name) (m .value) ≡ false)) ns
-      → Solved ns
-      → Solved (n ∷ ns)
 
 -- bindings in solved form, over the first n unknowns
 pub record In-form (arities : List ℕ) (n : ℕ) (bs : List Named) : Type 0 where

@@ -17,10 +17,9 @@ use Rattle.search.specs.declared.limits.Limits.{Limits}
 use Rattle.search.specs.State.{State, Node, live, state-size}
 use Rattle.search.specs.Children.{children}
 use Rattle.search.specs.Run.{Visit, visit, Outcome, Answer, silent, states, found, found-size, overflows, goes-on, verdict}
-use Rattle.promises.specs.States.Orderly.{Orderly}
-use Rattle.promises.specs.Runs.Tree.{orderly-children}
+use Rattle.invariants.specs.Orderly.{Orderly}
+use Rattle.invariants.specs.Tree.{orderly-children, Live as Is-live, is-live}
 use Rattle.search.specs.Verdicts.{allowed}
-use Rattle.promises.specs.Runs.Visiting.{Live as Is-live, is-live}
 use Rattle.turns.specs.Going.{Open, resumed, left, to-come, run-goes-on, run-overflows}
 use Rattle.rows.specs.declared.parts.Made.the-variants.{Live}
 use Rattle.rows.specs.Row.{Fresh, Makes}

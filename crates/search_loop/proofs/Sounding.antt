@@ -8,7 +8,7 @@ use Rattle.terms.specs.Formed.{Formed, Equation, sides}
 use Rattle.terms.specs.Answers.{Named}
 use Rattle.terms.specs.Members.{unknown-below}
 use Rattle.search.specs.State.{State}
-use Rattle.promises.specs.States.Orderly.{Orderly, Usable-sides}
+use Rattle.invariants.specs.Orderly.{Orderly, Usable-sides}
 use Rattle.binding.specs.At.{Sound}
 
 sides-formed : {arities : List ℕ} {n : ℕ} {bs : List Named} {es : List Equation} → All (Usable-sides arities n bs) es → All (Formed arities n) (sides es)

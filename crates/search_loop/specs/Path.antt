@@ -10,7 +10,7 @@ use Rattle.room.specs.Room.{seg, put, Within, length-put, seg-seg, seg-put-same
 use Rattle.room.specs.Parts.{earlier, later, seg-put}
 use Rattle.terms.specs.Bounds.{edition-one}
 use Rattle.search.specs.State.{State, state-size}
-use Rattle.promises.specs.States.Orderly.{Orderly}
+use Rattle.invariants.specs.Orderly.{Orderly}
 use Rattle.turns.specs.Going.{Open}
 use Rattle.rows.specs.Row.{Holds, Fresh}
 use Rattle.visits.specs.Number.{number-words, number-none}

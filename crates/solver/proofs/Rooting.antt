@@ -16,7 +16,7 @@ use Rattle.search.specs.declared.limits.Limits.{Limits}
 use Rattle.search.specs.State.{size-equations, size-named, state-size}
 use Rattle.search.specs.Run.{Visit, visit, root, ran}
 use Rattle.search.specs.StateWords.{pending-words, state-words, length-pending}
-use Rattle.promises.specs.Runs.Tree.{start, start-orderly}
+use Rattle.invariants.specs.Tree.{start, start-orderly}
 use Rattle.turns.specs.Going.{left, resumed-none, left-none, to-come, to-come-root}
 use Rattle.rows.specs.Header.{header-of}
 use Rattle.rows.specs.Row.{Fresh, header-for, header-words}

@@ -11,7 +11,7 @@ use Rattle.terms.specs.Answers.{listed}
 use Rattle.search.specs.declared.limits.Limits.{Limits}
 use Rattle.search.specs.State.{State, state-size}
 use Rattle.search.specs.Run.{Outcome, visit, ran}
-use Rattle.promises.specs.States.Orderly.{Orderly}
+use Rattle.invariants.specs.Orderly.{Orderly}
 use Rattle.turns.specs.Going.{to-come}
 use Rattle.rows.specs.Row.{Fresh}
 use Rattle.rows.specs.Header.{header-of}

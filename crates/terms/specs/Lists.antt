@@ -30,6 +30,10 @@ pub or-cases : (a b : Bool) → (a || b) ≡ true → (a ≡ true) ⊎ (b ≡ tr
 or-cases true b t = inl refl
 or-cases false b t = inr t
 
+pub or-else : {P : Type 0} (a b : Bool) → (a ≡ true → P) → (b ≡ true → P) → (a || b) ≡ true → P
+or-else true b f g o = f refl
+or-else false b f g o = g o
+
 pub or-left : {a : Bool} (b : Bool) → a ≡ true → (a || b) ≡ true
 or-left {a = true} b t = refl
 or-left {a = false} b t = absurd (false≢true t)

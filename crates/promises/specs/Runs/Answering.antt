@@ -10,10 +10,10 @@ use Rattle.terms.specs.Answers.{Named, answer-words}
 use Rattle.search.specs.Run.{Loan, Outcome, Visit, Verdict, stops, overflows, goes-on, Answer, silent, states, answer-by, visit, dead-visit, visits, root, found, verdict, spend, after, scan, ran}
 use Rattle.promises.specs.Wording.{In-form, Answers-in-form, words-of}
 use Rattle.terms.specs.Substitution.{formed-wider}
-use Rattle.promises.specs.States.Orderly.{Orderly}
+use Rattle.invariants.specs.Orderly.{Orderly}
 use Rattle.promises.specs.Runs.Visiting.{visits-each}
 use Rattle.promises.specs.Runs.Naming.{names-within}
-use Rattle.promises.specs.Runs.Tree.{Formed-question, orderly-children, root-orderly}
+use Rattle.invariants.specs.Tree.{Formed-question, orderly-children, root-orderly}
 
 -- ---- what a run lists
 

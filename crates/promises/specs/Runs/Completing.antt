@@ -12,7 +12,7 @@ use Rattle.promises.specs.Wording.{NoLess, whole}
 use Rattle.promises.specs.Runs.Agreeing.{Agreeing, at-end, alike, too-deep, visits-agreeing}
 use Rattle.search.specs.Verdicts.{done-first}
 use Rattle.promises.specs.Runs.Visiting.{scan-whole, whole-scan, enough-for, enough-lent}
-use Rattle.promises.specs.Runs.Tree.{Formed-question}
+use Rattle.invariants.specs.Tree.{Formed-question}
 use Rattle.promises.specs.Runs.Ending.{visits-settle}
 use Rattle.promises.specs.Runs.Naming.{names-suffice}
 

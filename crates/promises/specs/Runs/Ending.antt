@@ -11,11 +11,11 @@ use Rattle.search.specs.State.{State, Node, dead, live}
 use Rattle.search.specs.Children.{children}
 use Rattle.search.specs.Run.{visit, visits, root}
 use Rattle.promises.specs.Runs.Measures.{Below, by-first, by-second, by-third, by-measures}
-use Rattle.promises.specs.States.Orderly.{Orderly}
-use Rattle.promises.specs.States.Weight.{weights}
-use Rattle.promises.specs.States.Falling.{unbound, Falls, ends-dead, fewer-unbound, lighter, shorter}
-use Rattle.promises.specs.States.Joining.{children-fall}
-use Rattle.promises.specs.Runs.Tree.{Formed-question, start, start-orderly}
+use Rattle.invariants.specs.Orderly.{Orderly}
+use Rattle.invariants.specs.Weight.{weights}
+use Rattle.invariants.specs.Falling.{unbound, Falls, ends-dead, fewer-unbound, lighter, shorter}
+use Rattle.invariants.specs.Joining.{children-fall}
+use Rattle.invariants.specs.Tree.{Formed-question, start, start-orderly}
 
 -- the tree from a node on has at most n levels
 abbrev pub Levels : ℕ → Node → Type 0

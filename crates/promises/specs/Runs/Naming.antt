@@ -15,14 +15,14 @@ use Rattle.search.specs.declared.ends.End.{End}
 use Rattle.search.specs.declared.ends.End.the-variants.{Names}
 use Rattle.search.specs.State.{State, Node, live}
 use Rattle.search.specs.Run.{Loan, Visit, Verdict, stops, overflows, goes-on, visit, dead-visit, visits, root, found, verdict, spend, after, scan, ran}
-use Rattle.promises.specs.States.Tally.{tally-no-more, tally-most}
-use Rattle.promises.specs.States.Orderly.{named, Orderly, usable-unbound}
-use Rattle.promises.specs.States.Weight.{weights}
-use Rattle.promises.specs.States.Falling.{unbound, waiting, Falls, ends-dead, fewer-unbound, lighter, shorter}
-use Rattle.promises.specs.States.Joining.{children-fall}
+use Rattle.invariants.specs.Tally.{tally-no-more, tally-most}
+use Rattle.invariants.specs.Orderly.{named, Orderly, usable-unbound}
+use Rattle.invariants.specs.Weight.{weights}
+use Rattle.invariants.specs.Falling.{unbound, waiting, Falls, ends-dead, fewer-unbound, lighter, shorter}
+use Rattle.invariants.specs.Joining.{children-fall}
 use Rattle.search.specs.Verdicts.{Judged, steps-spent, too-deep, too-many-names, too-large, judged}
-use Rattle.promises.specs.Runs.Visiting.{Live, is-dead, is-live, visits-each}
-use Rattle.promises.specs.Runs.Tree.{Formed-question, start, start-orderly}
+use Rattle.promises.specs.Runs.Visiting.{visits-each}
+use Rattle.invariants.specs.Tree.{Formed-question, start, start-orderly, Live, is-dead, is-live}
 
 -- what a state may still make of names, within `most`
 data Budget (most : ℕ) (st : State) : Type 0 where

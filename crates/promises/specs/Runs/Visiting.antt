@@ -14,11 +14,7 @@ use Rattle.search.specs.Children.{children}
 use Rattle.search.specs.Run.{Loan, Visit, goes-on, visit, dead-visit, visits, found, found-size, spend, after, scan}
 use Rattle.promises.specs.Wording.{NoLess, all-found, whole}
 use Rattle.search.specs.Verdicts.{Allows, allowed, done-first}
-
--- a dead end, or a state that has I
-pub data Live (I : State → Type 0) : Node → Type 0 where
-  is-dead : Live I dead
-  is-live : {st : State} → I st → Live I (live st)
+use Rattle.invariants.specs.Tree.{Live, is-dead, is-live}
 
 -- what a state hands on to its children holds all over its tree
 pub visits-each : (I : State → Type 0) (P : Visit → Type 0) → ((st : State) → I st → All (Live I) (children st)) → ((d : ℕ) → P (dead-visit d))

@@ -5,14 +5,18 @@ use mathlib.Core.List.{List, [], _∷_}
 use Rattle.terms.specs.Lists.{All, none as all-none, both, All-map, any}
 use Rattle.terms.specs.Term.{Term}
 use Rattle.terms.specs.Formed.{Formed, Equation, sides, Question}
-use Rattle.search.specs.State.{State, Node}
+use Rattle.search.specs.State.{State, Node, dead, live}
 use Rattle.search.specs.Children.{children}
 use Rattle.search.specs.Run.{root}
-use Rattle.promises.specs.Wording.{nothing-bound}
-use Rattle.promises.specs.States.Orderly.{named, Usable, Usable-sides, Orderly}
-use Rattle.promises.specs.States.Falling.{Falls, ends-dead, fewer-unbound, lighter, shorter}
-use Rattle.promises.specs.States.Joining.{children-fall}
-use Rattle.promises.specs.Runs.Visiting.{Live, is-dead, is-live}
+use Rattle.invariants.specs.Orderly.{named, Usable, Usable-sides, Orderly}
+use Rattle.invariants.specs.Falling.{Falls, ends-dead, fewer-unbound, lighter, shorter}
+use Rattle.invariants.specs.Joining.{children-fall}
+use Rattle.invariants.specs.Solved.{nothing-bound}
+
+-- a dead end, or a state that has I
+pub data Live (I : State → Type 0) : Node → Type 0 where
+  is-dead : Live I dead
+  is-live : {st : State} → I st → Live I (live st)
 
 -- the state that a question starts from
 abbrev pub start : Question → State

@@ -5,9 +5,8 @@ use mathlib.Core.List.{List}
 use mathlib.Core.Bool.{Bool, true, false, false≢true, _||_, cond}
 use lib.Dec.{eqb}
 use borrow.Author.Tests.{eqb-true, eqb-false}
-use Rattle.terms.specs.Lists.{All, none as all-none, both, All-map, or-left, or-right}
+use Rattle.terms.specs.Lists.{All, none as all-none, both, All-map, or-left, or-right, or-else}
 use Rattle.terms.specs.Term.{Term, Terms, unknown, empty, with, functor, none, more, members, kernel, over, list, occurs, occurs*, subst, subst*}
-use Rattle.laws.specs.Substitution.{or-else}
 
 -- each unknown of the one occurs in the other
 abbrev pub Within : Term → Term → Type 0

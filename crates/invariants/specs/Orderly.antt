@@ -1,5 +1,5 @@
 -- A state in order: its equations and its pile mention no unknown that is bound, its bindings are in solved form, and all is formed over the
--- unknowns in use. Then what each change of a state keeps of this; the children's turn is in `Following`.
+-- unknowns in use. Then what each change of a state keeps of this; the children's turn is in `Falling`.
 use Prim.Native.Nat.{ℕ, suc, _≤_, _<_}
 use mathlib.Core.Path.{_≡_, refl, ap, _∙_, sym}
 use mathlib.Core.List.{List, [], _∷_, _++_}
@@ -17,8 +17,8 @@ use Rattle.terms.specs.Listing.{Bound}
 use Rattle.search.specs.State.{State, pend, piled, renewed}
 use Rattle.search.specs.Children.{replace-in, released, kept, bound-state}
 use Rattle.search.specs.Entries.{All-entries, All-others}
-use Rattle.promises.specs.Wording.{Solved, nothing-bound, first-bound}
-use Rattle.promises.specs.States.Occurring.{Put, from-put, from-other, members-within, kernel-within, list-within, over-each, occurs-subst}
+use Rattle.invariants.specs.Occurring.{Put, from-put, from-other, members-within, kernel-within, list-within, over-each, occurs-subst}
+use Rattle.invariants.specs.Solved.{Solved, nothing-bound, first-bound}
 
 -- ---- what is asked
 

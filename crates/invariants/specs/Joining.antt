@@ -8,20 +8,19 @@ use lib.Dec.{eqb}
 use lib.ListN.{length, length-map}
 use borrow.Author.Tests.{eq-eqb, ne-eqb}
 use native.Mathlib.Omega.{arith}
-use Rattle.terms.specs.Lists.{All, none as all-none, both, any, All-map, All-of-flatMap, cases, or-left, or-right}
+use Rattle.terms.specs.Lists.{All, none as all-none, both, any, All-map, All-of-flatMap, cases, or-left, or-right, or-else}
 use Rattle.terms.specs.Term.{Term, unknown, members, over}
 use Rattle.terms.specs.Flat.{size-positive}
 use Rattle.terms.specs.Formed.{Equation}
 use Rattle.terms.specs.Answers.{Named}
-use Rattle.laws.specs.Substitution.{or-else}
 use Rattle.search.specs.State.{State, Node, pend, renewed}
 use Rattle.search.specs.Children.{others, kept, bound-state, joined, join, children-by, children}
 use Rattle.search.specs.StepView.{stepped, Bound-to, bound-inside, bound-once, bound-to}
 use Rattle.search.specs.Entries.{entries-others, All-entries, All-others}
-use Rattle.promises.specs.States.Tally.{tally-fewer, tally-refused}
-use Rattle.promises.specs.States.Orderly.{named, named-fresh, Usable, Usable-entry, Usable-sides, Orderly, usable-below, usable-members, usable-over, usable-renewed, orderly-pend, orderly-renewed, orderly-bound}
-use Rattle.promises.specs.States.Weight.{weight, weights, equation-size}
-use Rattle.promises.specs.States.Falling.{unbound, waiting, Falls, ends-dead, shorter, bound-fewer, renewed-more, usable-new, falls-taken}
+use Rattle.invariants.specs.Tally.{tally-fewer, tally-refused}
+use Rattle.invariants.specs.Orderly.{named, named-fresh, Usable, Usable-entry, Usable-sides, Orderly, usable-below, usable-members, usable-over, usable-renewed, orderly-pend, orderly-renewed, orderly-bound}
+use Rattle.invariants.specs.Weight.{weight, weights, equation-size}
+use Rattle.invariants.specs.Falling.{unbound, waiting, Falls, ends-dead, shorter, bound-fewer, renewed-more, usable-new, falls-taken}
 
 -- ---- the entries of x, and the others
 

@@ -20,10 +20,10 @@ use Rattle.search.specs.declared.steps.Step.{Step}
 use Rattle.search.specs.State.{State, Node, dead, live, pend, piled, renewed}
 use Rattle.search.specs.Children.{bound-state, bound, then-bound, pile-up, settle, split, pairwise, take}
 use Rattle.search.specs.StepView.{Tailed, neither, left, right, different, same, sided-name, sided-term, Stepped, drops-unknown, drops-empty, binds, postpones, decomposes, splits, dead-buried, dead-functors, dead-clash, take-bind, take-postpone, Bound-to, bound-inside, bound-once, bound-to}
-use Rattle.promises.specs.States.Tally.{tally, tally-fewer, tally-suc}
-use Rattle.promises.specs.States.Orderly.{named, named-after, named-last, named-fresh, Usable, Usable-sides, Orderly, usable-below, usable-unbound, usable-unknown, usable-members, usable-kernel, usable-arguments, usable-over, usable-renewed, usable-replaced, orderly-pend, orderly-piled, orderly-renewed, orderly-bound}
-use Rattle.promises.specs.States.Weight.{weight, weights, equation-size, weight-some, weights-replaced, members-fit, kernel-fits, list-fits, list-length}
-use Rattle.promises.specs.States.Splitting.{split-each}
+use Rattle.invariants.specs.Tally.{tally, tally-fewer, tally-suc}
+use Rattle.invariants.specs.Orderly.{named, named-after, named-last, named-fresh, Usable, Usable-sides, Orderly, usable-below, usable-unbound, usable-unknown, usable-members, usable-kernel, usable-arguments, usable-over, usable-renewed, usable-replaced, orderly-pend, orderly-piled, orderly-renewed, orderly-bound}
+use Rattle.invariants.specs.Weight.{weight, weights, equation-size, weight-some, weights-replaced, members-fit, kernel-fits, list-fits, list-length}
+use Rattle.invariants.specs.Splitting.{split-each}
 
 -- the unknowns in use that are not bound, and those that wait in the pile
 unfoldable pub unbound : State → ℕ

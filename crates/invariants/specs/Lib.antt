@@ -1,0 +1,9 @@
+pub mod Solved
+pub mod Tally
+pub mod Occurring
+pub mod Orderly
+pub mod Weight
+pub mod Splitting
+pub mod Falling
+pub mod Joining
+pub mod Tree
