@@ -32,7 +32,7 @@ use Rattle.answers.specs.Fits.{States, Fits}
 use Rattle.answers.specs.DemandTwo.{every-answer-true, no-answer-lost, demand-two, done-without-answers}
 use Rattle.answers.specs.Runs.Listed.{answers-worded}
 use Rattle.answers.specs.Runs.Stated.{meets-stated}
-use Rattle.answers.specs.Steps.Pile.{has-members}
+use Rattle.answers.specs.Steps.PileSays.{has-members}
 
 -- ---- the specimens' terms and questions are good
 

@@ -1,1 +1,1 @@
-pub mod Naming
+pub mod NameWords

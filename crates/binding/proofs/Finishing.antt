@@ -20,7 +20,7 @@ use Rattle.rows.specs.Header.{header-of, Small}
 use Rattle.rows.specs.Wrote.{Wrote, wrote-length, done-fits, done-length}
 use Rattle.rows.specs.Bind.{FinishParts, pile-parts, pending-piece, pile-piece, last-piece, bound-piece}
 use Rattle.rows.specs.Finished.{Finished, bound-header, body-part, finish-part, finished-full, finished-sealed, finished-more}
-use Rattle.binding.proofs.Binding.{Same, same-pile, same-last, unwritten, length-last}
+use Rattle.binding.proofs.BindingPieces.{Same, same-pile, same-last, unwritten, length-last}
 
 -- nothing but the row is written
 module _ {r₀ : List ℕ} {rest : Rest} {by m to written size x next : ℕ} (F : FinishParts r₀ rest by m to written size x next) where

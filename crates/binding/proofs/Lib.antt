@@ -1,5 +1,5 @@
 pub mod Absent
-pub mod Binding
+pub mod BindingPieces
 pub mod Finishing
-pub mod Keeping
-pub mod Passing
+pub mod RestCopied
+pub mod EntriesRead

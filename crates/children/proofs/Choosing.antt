@@ -19,9 +19,9 @@ use Rattle.rows.specs.First.{first-in, header-in, HeaderParts, rest-after}
 use Rattle.rows.specs.Row.{header-for}
 use Rattle.only_child.specs.Next.{Ready}
 use Rattle.only_child.specs.Quiet.{Quiet}
-use Rattle.only_child.specs.Single.{Single}
-use Rattle.openings.specs.Splitting.{Splitting}
-use Rattle.only_child.proofs.Reading.{lent-part, Begins, no-equation, some-equation, header-read, pending-within, rest-parts}
+use Rattle.only_child.specs.NoChoice.{Single}
+use Rattle.openings.specs.SplitRow.{Splitting}
+use Rattle.only_child.proofs.ReadyRow.{lent-part, Begins, no-equation, some-equation, header-read, pending-within, rest-parts}
 
 module _ {arities l : List ℕ} {at number lent scratch most : ℕ} {st : State} (R : Ready arities l at number lent scratch most st) {h : Header}
     (read : h ≡ header-in (take (at + 5 - at) (drop at l))) where

@@ -18,10 +18,10 @@ use Rattle.search.specs.declared.steps.Step.the-variants.{Split}
 use Rattle.binding.specs.At.{first-words, first-size}
 use Rattle.only_child.specs.declared.next.Next.the-variants.{Spent}
 use Rattle.only_child.specs.Next.{Ready, Child}
-use Rattle.only_child.proofs.Joining.{no-joined, one-joined}
+use Rattle.only_child.proofs.JoinAsked.{no-joined, one-joined}
 use Rattle.only_child.proofs.Only.{no-child, only-passed}
-use Rattle.only_child.proofs.Reading.{children-by-first}
-use Rattle.only_child.proofs.Stepping.{only-one}
+use Rattle.only_child.proofs.ReadyRow.{children-by-first}
+use Rattle.only_child.proofs.StepAsked.{only-one}
 
 -- the left side of a split has a member
 left-member : {t u : Term} {k : Tails} → Stepped t u (Split k) → (m : Term) × ((r : Term) × (t ≡ with m r))

@@ -10,7 +10,7 @@ use borrow.Author.Tests.{ltb-true}
 use Rattle.room.specs.Room.{seg, put, length-put}
 use Rattle.room.specs.Parts.{Apart, apart-part, getD-put, seg-put}
 use Rattle.choices.specs.Gathered.{gathered, meets-piece, meeting-piece, Noted, MeetParts}
-use Rattle.choices.proofs.Meeting.{own-parts, other-parts, same-member}
+use Rattle.choices.proofs.EquationsWritten.{own-parts, other-parts, same-member}
 use Rattle.terms.specs.Lists.{cases}
 
 -- the same parts, one after the other

@@ -1,6 +1,6 @@
 pub mod Counting
 pub mod Equating
 pub mod Frame
-pub mod Meeting
+pub mod EquationsWritten
 pub mod Noting
 pub mod Opens

@@ -12,8 +12,8 @@ use Rattle.terms.specs.Term.{Term, words, size, members}
 use Rattle.terms.specs.Flat.{length-words}
 use Rattle.rows.specs.Stripped.{kernel-place}
 use Rattle.choices.specs.Places.{places, noted, noted-words, NoteParts}
-use Rattle.choices.specs.Standing.{at-of, at-last, length-places}
-use Rattle.choices.specs.Opened.{few-members}
+use Rattle.choices.specs.GatheredPicks.{at-of, at-last, length-places}
+use Rattle.choices.specs.OpenParent.{few-members}
 use Rattle.choices.specs.Open.{Open, OpenSides}
 
 module _ {arities l : List ℕ} {from right end lent scratch k : ℕ} {t u : Term} (O : Open arities l from right end lent scratch k t u) where

@@ -1,6 +1,6 @@
 pub mod Digits
 pub mod Gathered
 pub mod Open
-pub mod Opened
+pub mod OpenParent
 pub mod Places
-pub mod Standing
+pub mod GatheredPicks

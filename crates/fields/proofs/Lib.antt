@@ -1,2 +1,2 @@
-pub mod Lines
-pub mod Numbers
+pub mod FieldLaws
+pub mod DecimalDigits

@@ -1,6 +1,6 @@
 // Plain decimal numbers of 64 bits.
 ghost use mathlib.Core.Path.{_≡_};
-ghost use Rattle.fields.specs.Number.{more, number-of};
+ghost use Rattle.fields.specs.DecimalField.{more, number-of};
 
 pub enum Number {
     Value(u64),

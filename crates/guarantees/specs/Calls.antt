@@ -12,8 +12,8 @@ use Rattle.terms.specs.Reading.{question-of}
 use Rattle.search.specs.Ends.{end-of}
 use Rattle.search.specs.Run.{Loan, Outcome}
 use Rattle.text.specs.Text.{question-text}
-use Rattle.numerals.specs.Reading.{Reading}
-use Rattle.reader.specs.Lent.{question-into, laid, arities-of, words-of}
+use Rattle.numerals.specs.TextReading.{Reading}
+use Rattle.reader.specs.LentBuffers.{question-into, laid, arities-of, words-of}
 use Rattle.question_reader.specs.Questions as reader
 use Rattle.writer.specs.Written.{held, question-written, list-written, text-of-list}
 use Rattle.results.specs.declared.written.Written.{Written}

@@ -29,7 +29,7 @@ use Rattle.answers.specs.Fits.{Meets, Fits}
 use Rattle.promises.specs.Wording.{NoLess}
 use Rattle.text.specs.Text.{question-text}
 use Rattle.text.specs.Sizes.{question-length}
-use Rattle.reader.specs.Lent.{answer}
+use Rattle.reader.specs.LentBuffers.{answer}
 use Rattle.results.specs.declared.read.Question.the-variants as reading
 use Rattle.pen.specs.Depths.{all-within}
 use Rattle.writer.specs.Written.{too-deep-in, too-deep-in-list}
@@ -44,14 +44,14 @@ use Rattle.results.specs.declared.ran.Ran.the-variants as running
 use Rattle.guarantees.specs.Calls.{Posed, asked, in-words, Lending, loan-of, in-room, run-told, answers-after, used, question-told, question-after, list-told, list-after, solves-told, text-told, arities-after, words-after}
 use Rattle.guarantees.specs.Wording.{Granted, Read-once, largest, Nests-within, Writable, Writes, Reads, question-in, Compared, Tried, One-of}
 use Rattle.guarantees.specs.Proofs.Granting as granting
-use Rattle.guarantees.specs.Proofs.Answering as answering
-use Rattle.guarantees.specs.Proofs.Listing as listing
+use Rattle.guarantees.specs.Proofs.AnswersTrue as answering
+use Rattle.guarantees.specs.Proofs.GrantedList as listing
 use Rattle.guarantees.specs.Proofs.MoreLent as more-lent
 use Rattle.guarantees.specs.Proofs.Nesting as nests
 use Rattle.guarantees.specs.Proofs.Texts as texts
-use Rattle.guarantees.specs.Proofs.Comparing as comparing
+use Rattle.guarantees.specs.Proofs.ComparedByLaws as comparing
 use Rattle.guarantees.specs.Proofs.Refusing as refusing
-use Rattle.guarantees.specs.Proofs.Numbers as numbers
+use Rattle.guarantees.specs.Proofs.RefusalNumbers as numbers
 
 -- ---- 1. a granted run
 

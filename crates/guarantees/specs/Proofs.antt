@@ -4,14 +4,14 @@ use Prim.Native.Nat.{ℕ}
 use mathlib.Core.Path.{_≡_}
 use native.Mathlib.Omega.{arith}
 pub mod Granting
-pub mod Answering
-pub mod Listing
+pub mod AnswersTrue
+pub mod GrantedList
 pub mod MoreLent
 pub mod Nesting
 pub mod Texts
-pub mod Comparing
+pub mod ComparedByLaws
 pub mod Refusing
-pub mod Numbers
+pub mod RefusalNumbers
 
 -- what follows of two constructors said to be equal: `impossible (cc)`
 pub impossible : {P : Type 0} → _≡_ {A = ℕ} 0 1 → P

@@ -13,7 +13,7 @@ use Rattle.laws.specs.Values.{Values, in-order}
 use Rattle.search.specs.Run.{Outcome, ran}
 use Rattle.answers.specs.Fits.{States}
 use Rattle.text.specs.Text.{question-text}
-use Rattle.reader.specs.Lent.{answer}
+use Rattle.reader.specs.LentBuffers.{answer}
 use Rattle.results.specs.declared.read.Question.the-variants.{Read}
 use Rattle.results.specs.declared.written.Written.the-variants.{Length}
 use Rattle.guarantees.specs.Calls.{Posed, asked, Lending, loan-of, question-told, question-after, text-told, arities-after, words-after}

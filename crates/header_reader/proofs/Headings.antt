@@ -4,8 +4,8 @@ use mathlib.Core.Path.{_≡_, sym, ap, _∙_}
 use mathlib.Core.List.{List}
 use lib.ListN.{take}
 use Rattle.terms.specs.declared.refusal.Refusal.{Refusal}
-use Rattle.numerals.specs.Reading.{Reading, read, refused}
-use Rattle.header_reader.specs.Header.{Header, of-heading, count-of-heading}
+use Rattle.numerals.specs.TextReading.{Reading, read, refused}
+use Rattle.header_reader.specs.HeaderText.{Header, of-heading, count-of-heading}
 use Rattle.header_reader.specs.declared.header.Heading.{Heading}
 use Rattle.header_reader.specs.declared.header.Heading.the-variants.{Read, Refused}
 

@@ -1,2 +1,2 @@
 pub mod Headings
-pub mod Lines
+pub mod HeaderLines

@@ -6,7 +6,7 @@ ghost use lib.ListN.{length};
 ghost use Rattle.terms.specs.Bounds.{edition-one};
 ghost use Rattle.numerals.specs.Numbers.{of-numeral};
 ghost use Rattle.term_reader.specs.Terms.{of-got, count-of-got};
-ghost use Rattle.header_reader.specs.Header.{line, arity-list, arity-line, header, of-heading, count-of-heading};
+ghost use Rattle.header_reader.specs.HeaderText.{line, arity-list, arity-line, header, of-heading, count-of-heading};
 use numerals::bytes;
 use numerals::bytes::Met;
 use numerals::bytes::meet;

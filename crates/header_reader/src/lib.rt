@@ -1,3 +1,3 @@
-// The header of a question's text: edition, unknowns, arities, equations. In specs/, `Header` says what is read.
+// The header of a question's text: edition, unknowns, arities, equations. In specs/, `HeaderText` says what is read.
 
 pub mod header;

@@ -23,7 +23,7 @@ use Rattle.search.specs.StepView.{Tailed, neither, left, right, different, same
 use Rattle.invariants.specs.Tally.{tally, tally-fewer, tally-suc}
 use Rattle.invariants.specs.Orderly.{named, named-after, named-last, named-fresh, Usable, Usable-sides, Orderly, usable-below, usable-unbound, usable-unknown, usable-members, usable-kernel, usable-arguments, usable-over, usable-renewed, usable-replaced, orderly-pend, orderly-piled, orderly-renewed, orderly-bound}
 use Rattle.invariants.specs.Weight.{weight, weights, equation-size, weight-some, weights-replaced, members-fit, kernel-fits, list-fits, list-length}
-use Rattle.invariants.specs.Splitting.{split-each}
+use Rattle.invariants.specs.SplitPicks.{split-each}
 
 -- the unknowns in use that are not bound, and those that wait in the pile
 unfoldable pub unbound : State → ℕ

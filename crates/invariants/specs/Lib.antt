@@ -1,9 +1,9 @@
-pub mod Solved
+pub mod SolvedForm
 pub mod Tally
 pub mod Occurring
 pub mod Orderly
 pub mod Weight
-pub mod Splitting
+pub mod SplitPicks
 pub mod Falling
-pub mod Joining
+pub mod JoinFalls
 pub mod Tree

@@ -16,9 +16,9 @@ use Rattle.terms.specs.Substitution.{formed-wider, formed-subst}
 use Rattle.terms.specs.Listing.{Bound}
 use Rattle.search.specs.State.{State, pend, piled, renewed}
 use Rattle.search.specs.Children.{replace-in, released, kept, bound-state}
-use Rattle.search.specs.Entries.{All-entries, All-others}
+use Rattle.search.specs.PileEntries.{All-entries, All-others}
 use Rattle.invariants.specs.Occurring.{Put, from-put, from-other, members-within, kernel-within, list-within, over-each, occurs-subst}
-use Rattle.invariants.specs.Solved.{Solved, nothing-bound, first-bound}
+use Rattle.invariants.specs.SolvedForm.{Solved, nothing-bound, first-bound}
 
 -- ---- what is asked
 

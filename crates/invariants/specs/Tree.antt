@@ -10,8 +10,8 @@ use Rattle.search.specs.Children.{children}
 use Rattle.search.specs.Run.{root}
 use Rattle.invariants.specs.Orderly.{named, Usable, Usable-sides, Orderly}
 use Rattle.invariants.specs.Falling.{Falls, ends-dead, fewer-unbound, lighter, shorter}
-use Rattle.invariants.specs.Joining.{children-fall}
-use Rattle.invariants.specs.Solved.{nothing-bound}
+use Rattle.invariants.specs.JoinFalls.{children-fall}
+use Rattle.invariants.specs.SolvedForm.{nothing-bound}
 
 -- a dead end, or a state that has I
 pub data Live (I : State → Type 0) : Node → Type 0 where

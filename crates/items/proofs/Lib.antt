@@ -1,3 +1,3 @@
-pub mod Opening
-pub mod Passing
-pub mod Words
+pub mod FirstByte
+pub mod AfterItem
+pub mod WordsSoFar

@@ -9,7 +9,7 @@ use lib.ListN.{length, getD, take}
 use Rattle.terms.specs.Bounds.{Bounds}
 use Rattle.terms.specs.declared.refusal.Cause.the-variants.{Byte, Limit, Undeclared, Arguments, Nesting}
 use Rattle.text.specs.Text.{choose}
-use Rattle.numerals.specs.Reading.{Reading, read, refused, fault, and-then}
+use Rattle.numerals.specs.TextReading.{Reading, read, refused, fault, and-then}
 use Rattle.numerals.specs.Bytes.{byte, arguments-close, arguments-open, bar, comma, functor-letter, set-closes, set-opens, unknown-letter}
 use Rattle.numerals.specs.Numbers.{number}
 use Rattle.items.specs.declared.item.Item.{Item}

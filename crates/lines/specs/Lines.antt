@@ -1,5 +1,5 @@
 -- A question's text, word by word: its lines with the walks over its terms.
--- `Questions` proves that over the words of a question this is the text of the question.
+-- `QuestionWalk` of `writer` proves that over the words of a question this is the text of the question.
 use Prim.Native.Nat.{ℕ, zero, suc, _+_}
 use mathlib.Core.List.{List, [], _∷_, _++_}
 use Rattle.terms.specs.Bounds.{Bounds}

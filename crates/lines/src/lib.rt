@@ -1,4 +1,4 @@
-// The lines of questions and of answer lists. In specs/, `Lines` and `Listing` say what is written.
+// The lines of questions and of answer lists. In specs/, `Lines` and `ListLines` say what is written.
 
 pub mod line;
 pub mod list_lines;

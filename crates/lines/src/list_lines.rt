@@ -5,7 +5,7 @@ ghost use Rattle.terms.specs.Bounds.{edition-one};
 ghost use Rattle.text.specs.Keys.{end-key};
 ghost use Rattle.text.specs.Text.{line};
 ghost use Rattle.lines.specs.Lines.{repeat};
-ghost use Rattle.lines.specs.Listing.{binding-at, answer-at, list-header, list-lines};
+ghost use Rattle.lines.specs.ListLines.{binding-at, answer-at, list-header, list-lines};
 ghost use Rattle.pen.specs.Pen.{Wrote};
 ghost use Rattle.pen.specs.Walk.{Passed};
 use crate::line::put_number_line;

@@ -8,7 +8,7 @@ use lib.Dec.{ltb}
 use lib.ListN.{length}
 use borrow.Author.Tests.{lt-ltb, le-ltb}
 use Rattle.search.specs.Ends.{end-of, end-word}
-use Rattle.search.specs.Lent.{most-steps}
+use Rattle.search.specs.RunLimits.{most-steps}
 use Rattle.search.specs.declared.ends.End.{End}
 use Rattle.search.specs.declared.ends.Listed.the-variants.{As, Nowhere}
 use Rattle.terms.specs.Answers.{Named}
@@ -25,15 +25,15 @@ use Rattle.terms.specs.declared.refusal.Checked.the-variants.{Fine}
 use Rattle.terms.specs.declared.refusal.Checked.the-variants as checked
 use Rattle.text.specs.AnswerText.{list-text}
 use Rattle.pen.specs.Depths.{First}
-use Rattle.lines.specs.Listing.{list-lines}
+use Rattle.lines.specs.ListLines.{list-lines}
 use Rattle.pen.specs.Pen.{most}
 use Rattle.pen.specs.Walk.{Walk, ended}
 use Rattle.writer.specs.Written.{nested, tested, held, measured, too-deep-in-list, check-list, text-of-list, list-written, Held, untouched, written}
 use Rattle.results.specs.declared.written.Written.{Written}
 use Rattle.results.specs.declared.written.Written.the-variants.{Refused}
-use Rattle.writer.proofs.Answering.{measured-nested, written-held}
+use Rattle.writer.proofs.WrittenAnswer.{measured-nested, written-held}
 use Rattle.list_writer.proofs.Listings.{list-over}
-use Rattle.writer.proofs.Questions.{settled}
+use Rattle.writer.proofs.QuestionWalk.{settled}
 
 -- ---- the check of a list's numbers and words
 

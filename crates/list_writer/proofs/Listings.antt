@@ -19,11 +19,11 @@ use Rattle.text.specs.Keys.{unknown-key, value-key, bindings-key}
 use Rattle.text.specs.Text.{text, line, decimal}
 use Rattle.pen.specs.Depths.{depths}
 use Rattle.lines.specs.Lines.{repeat, term-line}
-use Rattle.lines.specs.Listing.{number-then, binding-at, answer-at, list-header, list-lines, binding-depths, list-depths}
+use Rattle.lines.specs.ListLines.{number-then, binding-at, answer-at, list-header, list-lines, binding-depths, list-depths}
 use Rattle.pen.specs.Walk.{Walk, ended, prepend}
 use Rattle.writer.specs.Written.{too-deep-in-list}
 use Rattle.pen.specs.Guarded.{guard-none}
-use Rattle.writer.proofs.Questions.{settled, guard-settled, part-then, part-bytes, past, line-over}
+use Rattle.writer.proofs.QuestionWalk.{settled, guard-settled, part-then, part-bytes, past, line-over}
 use Rattle.pen.specs.Tied.{Part, chain, from, on-to, before, spelt, length-depths}
 
 -- ---- a word in front

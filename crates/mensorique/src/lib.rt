@@ -20,7 +20,7 @@ ghost use Rattle.terms.specs.Listing.{answers-of};
 ghost use Rattle.terms.specs.Reading.{question-of};
 ghost use Rattle.search.specs.Ends.{end-of};
 ghost use Rattle.text.specs.Text.{question-text};
-ghost use Rattle.reader.specs.Lent.{ReadGives, question-into};
+ghost use Rattle.reader.specs.LentBuffers.{ReadGives, question-into};
 ghost use Rattle.writer.specs.Written.{held, question-written, list-written, text-of-list};
 ghost use Rattle.same.specs.Answering.{equal-answer, solves-answer};
 ghost use Rattle.results.specs.Result.{RunGives, told};

@@ -1,1 +1,1 @@
-pub mod Sides
+pub mod NotedSides

@@ -1,3 +1,3 @@
-// What scratch keeps of a split that stands open: the numbers of its sides. In specs/, `Sides` says which they are, and where they stand.
+// What scratch keeps of a split that stands open: the numbers of its sides. In specs/, `NotedSides` says which they are, and where they stand.
 
 pub mod shown;

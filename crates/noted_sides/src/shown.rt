@@ -2,7 +2,7 @@
 // are in the third.
 ghost use mathlib.Core.Path.{_≡_};
 ghost use Rattle.room.specs.Room.{put};
-ghost use Rattle.noted_sides.specs.Sides.{numbers-of, NumberParts, sides-in, SidesParts};
+ghost use Rattle.noted_sides.specs.NotedSides.{numbers-of, NumberParts, sides-in, SidesParts};
 use choices::sides::Sides;
 use rows::header::HEADER;
 use rows::walk::wide;

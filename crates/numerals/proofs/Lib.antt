@@ -1,2 +1,2 @@
-pub mod Digits
-pub mod Meeting
+pub mod DigitTests
+pub mod KeyTurns

@@ -7,7 +7,7 @@ use lib.Dec.{eqb}
 use lib.ListN.{length, getD, List·getD-eq-default}
 use Rattle.terms.specs.declared.refusal.Cause.the-variants.{Byte}
 use Rattle.text.specs.Text.{choose}
-use Rattle.numerals.specs.Reading.{Reading, read, refused}
+use Rattle.numerals.specs.TextReading.{Reading, read, refused}
 use Rattle.numerals.specs.declared.bytes.Met.{Met}
 use Rattle.numerals.specs.declared.bytes.Met.the-variants.{At, Refused}
 

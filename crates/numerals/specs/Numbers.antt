@@ -8,7 +8,7 @@ use lib.Dec.{eqb, ltb}
 use Rattle.terms.specs.Lists.{cases}
 use Rattle.terms.specs.declared.refusal.Cause.the-variants.{Number, Limit}
 use Rattle.text.specs.Text.{choose}
-use Rattle.numerals.specs.Reading.{Reading, read, refused, fault, and-then}
+use Rattle.numerals.specs.TextReading.{Reading, read, refused, fault, and-then}
 use Rattle.numerals.specs.Bytes.{byte}
 use Rattle.numerals.specs.declared.number.Numeral.{Numeral}
 use Rattle.numerals.specs.declared.number.Numeral.the-variants.{Value, Unfit}

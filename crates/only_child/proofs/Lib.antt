@@ -1,4 +1,4 @@
-pub mod Joining
+pub mod JoinAsked
 pub mod Only
-pub mod Reading
-pub mod Stepping
+pub mod ReadyRow
+pub mod StepAsked

@@ -1,4 +1,4 @@
 pub mod Became
 pub mod Next
 pub mod Quiet
-pub mod Single
+pub mod NoChoice

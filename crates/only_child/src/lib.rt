@@ -4,7 +4,7 @@
 //     quiet   the child of a row in which nothing is pending
 //     single  the child of a row whose first equation leaves no choice
 //
-// In specs/, `Next` is what is asked of a row and told of its children; `Quiet` and `Single` are what is asked by how the child comes; `Became` says what a
+// In specs/, `Next` is what is asked of a row and told of its children; `Quiet` and `NoChoice` are what is asked by how the child comes; `Became` says what a
 // node is by what became of it.
 
 pub mod next;

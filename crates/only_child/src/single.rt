@@ -3,7 +3,7 @@ ghost use mathlib.Core.List.{List};
 ghost use Rattle.terms.specs.Formed.{Equation};
 ghost use Rattle.search.specs.State.{State};
 ghost use Rattle.only_child.specs.Next.{Kept};
-ghost use Rattle.only_child.specs.Single.{Single, SingleAt};
+ghost use Rattle.only_child.specs.NoChoice.{Single, SingleAt};
 use crate::next::Next;
 use crate::next::told_of;
 use plain_steps::child::take_step;

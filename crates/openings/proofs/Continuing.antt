@@ -28,20 +28,20 @@ use Rattle.rows.specs.Stripped.{kernel-place}
 use Rattle.turns.specs.Picking.{radix}
 use Rattle.choices.specs.declared.sides.Sides.{Sides}
 use Rattle.choices.specs.Digits.{copies, length-copies, length-digits, PickParts, Advanced}
-use Rattle.choices.specs.Opened.{Parent, few-members}
+use Rattle.choices.specs.OpenParent.{Parent, few-members}
 use Rattle.choices.specs.Places.{places}
-use Rattle.choices.specs.Standing.{At, at-of, at-first, at-last, length-places}
+use Rattle.choices.specs.GatheredPicks.{At, at-of, at-first, at-last, length-places}
 use Rattle.only_child.specs.declared.next.Next.{Next}
 use Rattle.only_child.specs.declared.next.Next.the-variants.{Spent}
-use Rattle.pick_loop.specs.Picks.{left-open, right-open, place, Picks, PicksAt, Picked}
+use Rattle.pick_loop.specs.PicksInScratch.{left-open, right-open, place, Picks, PicksAt, Picked}
 use Rattle.pick_loop.specs.Shown.{Opened, Opens}
-use Rattle.noted_sides.specs.Sides.{sides-in, SidesParts}
-use Rattle.openings.specs.Splitting.{Splitting}
+use Rattle.noted_sides.specs.NotedSides.{sides-in, SidesParts}
+use Rattle.openings.specs.SplitRow.{Splitting}
 use Rattle.pick_loop.proofs.Advancing.{advance-parts, advanced-long, advanced-before, advanced-told, further, advanced, one-further, none-further}
-use Rattle.openings.proofs.Opening.{Noted, parent, opened, picks-of, all-of, opens-none, opens-from}
+use Rattle.openings.proofs.SplitOpened.{Noted, parent, opened, picks-of, all-of, opens-none, opens-from}
 use Rattle.pick_loop.proofs.Radices.{Sets, sets}
-use Rattle.only_child.proofs.Reading.{lent-part, header-read, rest-parts}
-use Rattle.openings.proofs.Splitting.{open-there}
+use Rattle.only_child.proofs.ReadyRow.{lent-part, header-read, rest-parts}
+use Rattle.openings.proofs.SplitSides.{open-there}
 
 -- the kernel has a word
 kernel-below : (t : Term) → kernel-place t < size t

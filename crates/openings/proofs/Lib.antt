@@ -1,4 +1,4 @@
 pub mod Continuing
-pub mod Opening
-pub mod Splitting
-pub mod Starting
+pub mod SplitOpened
+pub mod SplitSides
+pub mod StartedSplit

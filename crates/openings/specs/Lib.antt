@@ -1,1 +1,1 @@
-pub mod Splitting
+pub mod SplitRow

@@ -4,7 +4,7 @@ ghost use Prim.Native.Nat.{ℕ, _+_};
 ghost use Rattle.terms.specs.Formed.{Equation};
 ghost use Rattle.search.specs.State.{State};
 ghost use Rattle.pick_loop.specs.Shown.{Opened, OpenedAt, Opens};
-ghost use Rattle.openings.specs.Splitting.{Splitting, SplittingAt};
+ghost use Rattle.openings.specs.SplitRow.{Splitting, SplittingAt};
 use choices::picks::advance;
 use choices::picks::digits;
 use choices::sides::open_sides;

@@ -7,7 +7,7 @@ use mathlib.Core.List.{List, [], _∷_}
 use lib.ListN.{length, getD, set, length-set}
 use lib.Seq.{getD-set-other, getD-set-same}
 use Rattle.pen.specs.Pen.{most, Wrote}
-use Rattle.pen.specs.Opened.{Bracket, closing, closed, bracket, brackets, Holds}
+use Rattle.pen.specs.OpenBrackets.{Bracket, closing, closed, bracket, brackets, Holds}
 use Rattle.pen.specs.Writing.{wrote-nothing, wrote-then, wrote-as, length-wrote, next-most}
 
 pub length-brackets : (stack : List ℕ) (d : ℕ) → length (brackets stack d) ≡ d

@@ -9,7 +9,7 @@ use lib.Dec.{ltb}
 use borrow.Author.Tests.{lt-ltb, le-ltb}
 use Rattle.text.specs.Text.{unknown-name, functor-name, decimal}
 use Rattle.pen.specs.Pen.{Wrote}
-use Rattle.pen.specs.Opened.{Bracket, tail, argument, closing, closed, bracket, brackets, Holds}
+use Rattle.pen.specs.OpenBrackets.{Bracket, tail, argument, closing, closed, bracket, brackets, Holds}
 use Rattle.pen.specs.Walk.{Writes, writes, after, opens, begins, continues, word, Stepped, went-on, was-deep}
 use Rattle.pen.specs.declared.begin.Symbol.{Symbol}
 use Rattle.pen.specs.declared.begin.Symbol.the-variants.{Empty, Adding, Unknown, Functor}

@@ -11,7 +11,7 @@ use Rattle.terms.specs.Lists.{cases}
 use Rattle.terms.specs.Lists as lists
 use Rattle.terms.specs.Bounds.{Bounds, Proper}
 use Rattle.text.specs.Text.{choose}
-use Rattle.pen.specs.Opened.{Bracket}
+use Rattle.pen.specs.OpenBrackets.{Bracket}
 use Rattle.pen.specs.Walk.{Writes, writes, deep, after, opens, symbol, Walk, ended, too-deep, prepend, onward, next}
 use Rattle.pen.specs.declared.begin.Symbol.the-variants.{Empty, Adding, Unknown, Functor}
 

@@ -1,8 +1,8 @@
 pub mod Pen
-pub mod Opened
+pub mod OpenBrackets
 pub mod Walk
 pub mod Depths
 pub mod Writing
-pub mod Passing
+pub mod Passages
 pub mod Guarded
 pub mod Tied

@@ -10,7 +10,7 @@ use Rattle.terms.specs.Kind.{Worded}
 use Rattle.terms.specs.Term.{Term, Terms, unknown, empty, with, functor, none, more, words, words*, size, size*, count}
 use Rattle.terms.specs.Formed.{Formed, Formed*, formed-unknown, formed-empty, formed-with, formed-functor, formed-none, formed-more}
 use Rattle.text.specs.Text.{text, after-member, arguments, after-argument, unknown-name, functor-name}
-use Rattle.pen.specs.Opened.{Bracket, member, rest, tail, argument, closing, closed}
+use Rattle.pen.specs.OpenBrackets.{Bracket, member, rest, tail, argument, closing, closed}
 use Rattle.pen.specs.Depths.{depths, rest-depths, argument-depths, further-depths}
 use Rattle.pen.specs.Walk.{writes, opens, begins, continues, word, symbol, Walk, prepend, onward, next, walk}
 use Rattle.pen.specs.declared.begin.Symbol.{Symbol}

@@ -7,7 +7,7 @@ use lib.Dec.{eqb, ltb}
 use lib.ListN.{length, getD, drop}
 use Rattle.terms.specs.Bounds.{Bounds}
 use Rattle.text.specs.Text.{choose, unknown-name, functor-name}
-use Rattle.pen.specs.Opened.{Bracket, member, rest, tail, argument, closing, closed, Holds}
+use Rattle.pen.specs.OpenBrackets.{Bracket, member, rest, tail, argument, closing, closed, Holds}
 use Rattle.pen.specs.Pen.{Wrote}
 use Rattle.pen.specs.declared.begin.Symbol.{Symbol}
 use Rattle.pen.specs.declared.begin.Symbol.the-variants.{Empty, Adding, Unknown, Functor}

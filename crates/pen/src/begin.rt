@@ -4,7 +4,7 @@ ghost use mathlib.Core.Path.{_≡_};
 ghost use Prim.Native.Nat.{_-_, _≤_, _<_};
 ghost use lib.ListN.{length};
 ghost use Rattle.terms.specs.Bounds.{edition-one};
-ghost use Rattle.pen.specs.Opened.{bracket, brackets, tail};
+ghost use Rattle.pen.specs.OpenBrackets.{bracket, brackets, tail};
 ghost use Rattle.pen.specs.Walk.{symbol, after, opens, begins, Stepped};
 use crate::bracket::ARGUMENT;
 use crate::bracket::MEMBER;

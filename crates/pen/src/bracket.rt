@@ -2,7 +2,7 @@
 ghost use Prim.Native.Nat.{_≤_};
 ghost use lib.ListN.{length};
 ghost use Rattle.pen.specs.Pen.{Wrote};
-ghost use Rattle.pen.specs.Opened.{brackets, closed, closing, Holds};
+ghost use Rattle.pen.specs.OpenBrackets.{brackets, closed, closing, Holds};
 use crate::put::put_byte;
 
 // A set's member is being written; it is written, and the rest comes; the tail is being written; an argument is being written, and no other

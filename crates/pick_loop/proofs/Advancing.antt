@@ -11,11 +11,11 @@ use Rattle.terms.specs.Term.{members, kernel}
 use Rattle.terms.specs.Shape.{is-unknown}
 use Rattle.search.specs.declared.steps.Tails.{Tails}
 use Rattle.rows.specs.declared.parts.Rest.{Rest}
-use Rattle.turns.specs.Numbers.{number}
+use Rattle.turns.specs.ChoiceNumbers.{number}
 use Rattle.choices.specs.declared.sides.Sides.{Sides}
 use Rattle.choices.specs.Digits.{copies, length-copies, length-digits, PickParts, Advanced}
-use Rattle.choices.specs.Opened.{Parent}
-use Rattle.pick_loop.specs.Picks.{all-children, place, Picks, again}
+use Rattle.choices.specs.OpenParent.{Parent}
+use Rattle.pick_loop.specs.PicksInScratch.{all-children, place, Picks, again}
 use Rattle.pick_loop.proofs.Numbering.{Parts, digits-parts, radices, place-is, none-after}
 use Rattle.pick_loop.proofs.Radices.{radix-most}
 use Rattle.pick_loop.proofs.Repicking.{numbers, picks, same-long, same-before, same-told, repicked}

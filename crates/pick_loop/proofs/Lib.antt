@@ -1,6 +1,6 @@
 pub mod Advancing
 pub mod Numbering
-pub mod Passing
+pub mod PassedDead
 pub mod Radices
 pub mod Repicking
-pub mod Telling
+pub mod ToldBefore

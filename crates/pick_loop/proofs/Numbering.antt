@@ -11,13 +11,13 @@ use Rattle.terms.specs.Formed.{Equation}
 use Rattle.search.specs.Classify.{tails}
 use Rattle.search.specs.declared.steps.Tails.{Tails}
 use Rattle.rows.specs.declared.parts.Rest.{Rest}
-use Rattle.turns.specs.Numbers.{choices, number, Digits, no-digit, digit, choices-append, number-append}
+use Rattle.turns.specs.ChoiceNumbers.{choices, number, Digits, no-digit, digit, choices-append, number-append}
 use Rattle.turns.specs.Picking.{radix, radices-of, t-radices, u-radices, child-number, drop-split, length-split}
 use Rattle.choices.specs.declared.sides.Sides.{Sides}
 use Rattle.choices.specs.Digits.{copies}
-use Rattle.choices.specs.Opened.{Parent}
+use Rattle.choices.specs.OpenParent.{Parent}
 use Rattle.tails.specs.Due.{child}
-use Rattle.pick_loop.specs.Picks.{all-children, place, Picks}
+use Rattle.pick_loop.specs.PicksInScratch.{all-children, place, Picks}
 
 radices-copies : (pair : Term → Term → Equation) (tail : Bool) (others owns : List Term) → radices-of pair tail others owns ≡ copies (length owns) (radix tail (length others))
 unfolding radices-of copies

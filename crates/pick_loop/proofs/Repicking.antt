@@ -8,8 +8,8 @@ use Rattle.room.specs.Room.{seg, put, length-put, seg-put-same}
 use Rattle.room.specs.Parts.{earlier, later, seg-put}
 use Rattle.rows.specs.declared.parts.Rest.{Rest}
 use Rattle.choices.specs.declared.sides.Sides.{Sides}
-use Rattle.choices.specs.Opened.{Parent, Opened, few-members}
-use Rattle.pick_loop.specs.Picks.{again}
+use Rattle.choices.specs.OpenParent.{Parent, Opened, few-members}
+use Rattle.pick_loop.specs.PicksInScratch.{again}
 
 -- the numbers, for `omega`
 pub record Numbers (l : List ℕ) (at : ℕ) (sides : Sides) (lent scratch : ℕ) : Type 0 where

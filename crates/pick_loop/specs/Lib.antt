@@ -1,2 +1,2 @@
-pub mod Picks
+pub mod PicksInScratch
 pub mod Shown

@@ -15,16 +15,16 @@ use Rattle.search.specs.Classify.{classify}
 use Rattle.search.specs.declared.steps.Tails.{Tails}
 use Rattle.search.specs.declared.steps.Step.the-variants.{Split}
 use Rattle.rows.specs.declared.parts.Made.the-variants.{Live}
-use Rattle.turns.specs.Numbers.{Digits}
+use Rattle.turns.specs.ChoiceNumbers.{Digits}
 use Rattle.turns.specs.Picking.{radix}
 use Rattle.choices.specs.Digits.{copies}
 use Rattle.choices.specs.Places.{places}
-use Rattle.choices.specs.Opened.{few-members}
+use Rattle.choices.specs.OpenParent.{few-members}
 use Rattle.only_child.specs.declared.next.Next.{Next}
 use Rattle.only_child.specs.declared.next.Next.the-variants.{Node as Found}
 use Rattle.only_child.specs.declared.next.Looked.{Looked}
 use Rattle.only_child.specs.Next.{Ready, Child, same-part}
-use Rattle.pick_loop.specs.Picks.{place}
+use Rattle.pick_loop.specs.PicksInScratch.{place}
 
 -- the first equation of the state is a split, and the picks are those of its child of the number `last`
 pub record Shown (l : List ℕ) (lent scratch : ℕ) (st : State) (last : ℕ) : Type 0 where

@@ -1,6 +1,6 @@
 // The children of a split from the one on whose picks stand in scratch: dead ends are passed, one choice of picks after the other.
-ghost use Rattle.choices.specs.Opened.{Parent};
-ghost use Rattle.pick_loop.specs.Picks.{Picks, PicksAt, Ended, EndedAt, Picked};
+ghost use Rattle.choices.specs.OpenParent.{Parent};
+ghost use Rattle.pick_loop.specs.PicksInScratch.{Picks, PicksAt, Ended, EndedAt, Picked};
 use choices::picks::advance;
 use choices::sides::Sides;
 use only_child::next::Next;

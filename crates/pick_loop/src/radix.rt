@@ -2,7 +2,7 @@
 ghost use mathlib.Core.Path.{_≡_};
 ghost use Prim.Native.Nat.{_<_};
 ghost use Rattle.turns.specs.Picking.{radix};
-ghost use Rattle.pick_loop.specs.Picks.{left-open, right-open};
+ghost use Rattle.pick_loop.specs.PicksInScratch.{left-open, right-open};
 use search::steps::Tails;
 
 // How many picks a t has: the m u's, and the right tail if it is an unknown.

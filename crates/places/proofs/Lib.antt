@@ -1,3 +1,3 @@
-pub mod Writing
+pub mod LabelsWritten
 pub mod Words
 pub mod Scanning

@@ -13,7 +13,7 @@ use Rattle.rows.specs.Ended.{term-end, ended-within}
 use Rattle.rows.specs.Stripped.{kernel-at}
 use Rattle.rows.specs.Pile.{kept}
 use Rattle.plain_steps.specs.Join.{gathered, gathered-entry, gathered-none, stripped-ended}
-use Rattle.binding.proofs.Keeping.{put-after}
+use Rattle.binding.proofs.RestCopied.{put-after}
 
 pub record Gathering (arities r₀ : List ℕ) (from n x to : ℕ) (r : List ℕ) (read written : ℕ) : Type 0 where
   pub parts : CopyParts r₀ from n to

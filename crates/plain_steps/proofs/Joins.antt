@@ -16,7 +16,7 @@ use Rattle.rows.specs.Flat.{holds}
 use Rattle.rows.specs.Bind.{FinishParts, pile-piece, last-piece}
 use Rattle.rows.specs.Finished.{Finished, bound-header}
 use Rattle.plain_steps.specs.Join.{gathered, length-gathered}
-use Rattle.plain_steps.specs.Joining.{JoinParts, joining-word, joining-words, valued, Joined}
+use Rattle.plain_steps.specs.JoinLaid.{JoinParts, joining-word, joining-words, valued, Joined}
 
 module _ (arities : List ℕ) {r₀ : List ℕ} {rest : Rest} {value to size next : ℕ} (P : JoinParts r₀ rest value to size next) where
   abbrev x : ℕ

@@ -13,8 +13,8 @@ use Rattle.rows.specs.declared.first.Subject.{Subject}
 use Rattle.rows.specs.Bind.{FinishParts}
 use Rattle.rows.specs.Finished.{finish-long}
 use Rattle.rows.specs.Ended.{term-end, ended-within}
-use Rattle.plain_steps.specs.Single.{postponed, PostponeParts, PairParts, DecomposeParts, paired, length-paired, decomposed}
-use Rattle.binding.proofs.Keeping.{put-after}
+use Rattle.plain_steps.specs.StepParts.{postponed, PostponeParts, PairParts, DecomposeParts, paired, length-paired, decomposed}
+use Rattle.binding.proofs.RestCopied.{put-after}
 
 module _ {r₀ : List ℕ} {rest : Rest} {s : Subject} {entry to size next : ℕ} (P : PostponeParts r₀ rest s entry to size next) where
   pub entry-copy : CopyParts (set r₀ entry (s .x)) (s .by) (s .m) (entry + 1)

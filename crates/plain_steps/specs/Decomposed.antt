@@ -25,7 +25,7 @@ use Rattle.rows.specs.Ended.{term-end-words}
 use Rattle.rows.specs.Finished.{Finished, finish-long}
 use Rattle.rows.specs.Row.{Makes, Beside, beside-put, finished-beside}
 use Rattle.binding.specs.Child.{Piled, extended, keep-makes}
-use Rattle.plain_steps.specs.Single.{PairParts, DecomposeParts, paired, decomposed, length-paired}
+use Rattle.plain_steps.specs.StepParts.{PairParts, DecomposeParts, paired, decomposed, length-paired}
 use Rattle.binding.specs.At.{sound-worded, Held, first-formed, left-stands, right-stands, sides-within, first-size}
 use Rattle.plain_steps.specs.Singles.{rest, single-parts, rest-stands, rest-bound, few, rested-put, makes-after}
 

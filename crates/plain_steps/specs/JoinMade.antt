@@ -17,7 +17,7 @@ use Rattle.terms.specs.Answers.{Named, pile-words}
 use Rattle.terms.specs.Substitution.{occurs-over}
 use Rattle.search.specs.State.{State, Node, live, dead, pend, renewed, size-equations, size-named, state-size}
 use Rattle.search.specs.Children.{others, bound-state, bound, joined}
-use Rattle.search.specs.Entries.{entries-others, others-others}
+use Rattle.search.specs.PileEntries.{entries-others, others-others}
 use Rattle.search.specs.StateWords.{length-pile}
 use Rattle.rows.specs.declared.parts.Rest.{Rest}
 use Rattle.rows.specs.declared.parts.Made.{Made}
@@ -27,7 +27,7 @@ use Rattle.rows.specs.Flat.{holds}
 use Rattle.rows.specs.Finished.{finish-long}
 use Rattle.rows.specs.Members.{member-words, words-over, holds-members}
 use Rattle.plain_steps.specs.Join.{gathered-pile, length-gathered}
-use Rattle.plain_steps.specs.Joining.{JoinParts, joining-word, joining-words, valued, Joined}
+use Rattle.plain_steps.specs.JoinLaid.{JoinParts, joining-word, joining-words, valued, Joined}
 use Rattle.rows.specs.Row.{Rested, Makes, Beside, beside-same, beside-aside, finished-beside, header-for, becomes}
 use Rattle.binding.specs.Child.{Stands, finish-pile-makes}
 use Rattle.rows.specs.First.{rest-after}

@@ -1,7 +1,7 @@
 pub mod Decomposed
 pub mod Join
 pub mod JoinMade
-pub mod Joining
-pub mod Only
-pub mod Single
+pub mod JoinLaid
+pub mod OnlyStep
+pub mod StepParts
 pub mod Singles

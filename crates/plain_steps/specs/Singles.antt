@@ -24,7 +24,7 @@ use Rattle.rows.specs.Finished.{Finished, bound-header, finish-long}
 use Rattle.rows.specs.Row.{Rested, Makes, Beside, beside-aside, finished-beside, header-for}
 use Rattle.binding.specs.Child.{Piled, ahead, extended, finish-makes, keep-makes}
 use Rattle.rows.specs.First.{rest-after}
-use Rattle.plain_steps.specs.Single.{postponed, PostponeParts}
+use Rattle.plain_steps.specs.StepParts.{postponed, PostponeParts}
 use Rattle.binding.specs.At.{sound-worded, Held, rested, finish-parts, SubjectAt, sides-within, first-size, rest-room}
 
 none-pending : [] ≡ pending-words edition-one []

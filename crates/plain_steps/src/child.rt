@@ -1,5 +1,5 @@
 // The only child of a state whose first equation leaves no choice.
-ghost use Rattle.plain_steps.specs.Only.{StepAt, Taken};
+ghost use Rattle.plain_steps.specs.OnlyStep.{StepAt, Taken};
 use crate::single::decompose;
 use crate::single::postpone;
 use binding::bind::finish;

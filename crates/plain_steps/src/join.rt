@@ -6,7 +6,7 @@ ghost use Rattle.room.specs.Room.{seg, put};
 ghost use Rattle.room.specs.Parts.{CopyParts};
 ghost use Rattle.terms.specs.Bounds.{edition-one};
 ghost use Rattle.plain_steps.specs.Join.{gathered};
-ghost use Rattle.plain_steps.specs.Joining.{JoinParts, Joined};
+ghost use Rattle.plain_steps.specs.JoinLaid.{JoinParts, Joined};
 use binding::bind::finish_pile;
 use rows::parts::Made;
 use rows::parts::Rest;

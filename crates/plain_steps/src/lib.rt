@@ -4,7 +4,7 @@
 //     join    the entries of the pile's first unknown joined
 //     child   the step that the first equation calls for
 //
-// In specs/, `Single`, `Singles`, `Decomposed` and `Only` say what each writes, `Join`, `Joining` and `JoinMade` the same of a join.
+// In specs/, `StepParts`, `Singles`, `Decomposed` and `OnlyStep` say what each writes, `Join`, `JoinLaid` and `JoinMade` the same of a join.
 
 pub mod child;
 pub mod join;

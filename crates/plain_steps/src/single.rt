@@ -9,7 +9,7 @@ ghost use Rattle.rows.specs.Ended.{term-end};
 ghost use Rattle.rows.specs.Header.{header-of};
 ghost use Rattle.binding.specs.Keep.{kept-piece, kept-header};
 ghost use Rattle.rows.specs.Finished.{Finished};
-ghost use Rattle.plain_steps.specs.Single.{postponed, PostponeParts, PairParts, DecomposeParts, paired, decomposed};
+ghost use Rattle.plain_steps.specs.StepParts.{postponed, PostponeParts, PairParts, DecomposeParts, paired, decomposed};
 use binding::keep::keep;
 use rows::first::Subject;
 use rows::header::HEADER;

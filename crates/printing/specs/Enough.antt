@@ -21,20 +21,20 @@ use Rattle.checks.specs.Lent.{good-check-question, question-back, check-answers
 use Rattle.search.specs.declared.ends.End.{End}
 use Rattle.search.specs.declared.ends.End.the-variants.{Done, Steps, Depth, Names, Size, Space}
 use Rattle.search.specs.Ends.{end-word}
-use Rattle.search.specs.Lent.{most-steps}
+use Rattle.search.specs.RunLimits.{most-steps}
 use Rattle.search.specs.Run.{Outcome, ran}
 use Rattle.text.specs.AnswerText.{list-text}
 use Rattle.text.specs.ListSizes.{list-length}
 use Rattle.text.specs.Sizes.{Short}
 use Rattle.text.specs.Text.{question-text}
-use Rattle.numerals.specs.Reading.{Reading, read, and-then, then-read}
-use Rattle.numerals.specs.Reading as reading
-use Rattle.term_reader.specs.Places.{Placed, stops}
+use Rattle.numerals.specs.TextReading.{Reading, read, and-then, then-read}
+use Rattle.numerals.specs.TextReading as reading
+use Rattle.term_reader.specs.ReadingPlaces.{Placed, stops}
 use Rattle.question_reader.specs.Questions.{Asked, question}
 use Rattle.question_reader.specs.WholePlaces.{question-placed}
 use Rattle.roundtrip.specs.QuestionText.{asked, written-then-read, edition-one-narrow}
 use Rattle.roundtrip.specs.QuestionSpans.{Comes-from, comes-from, read-then-written}
-use Rattle.reader.specs.Lent.{fitted, question-into}
+use Rattle.reader.specs.LentBuffers.{fitted, question-into}
 use Rattle.pen.specs.Depths.{First, all-within, first-at}
 use Rattle.writer.specs.Written.{tested, nested, check-list, list-written, text-of-list}
 use Rattle.writer.specs.Written as writer
@@ -42,7 +42,7 @@ use Rattle.results.specs.Loans.{ending, loan, needed}
 use Rattle.results.specs.Result.{gives, told, told-within}
 use Rattle.guarantees.specs.Calls.{Lending, in-words}
 use Rattle.guarantees.specs.Promised.{end-by-number, list-fits, steps-suffice}
-use Rattle.guarantees.specs.Proofs.Listing.{list-fine}
+use Rattle.guarantees.specs.Proofs.GrantedList.{list-fine}
 use Rattle.printing.specs.Solved.{Found, lists, refused, of-written, of-list, of-run, of-words, of-reading, found}
 
 -- what is found has the room that it needs: a list's text fits the output, and a refusal is none of 7 and 8

@@ -12,10 +12,10 @@ use Rattle.terms.specs.Refusal.{number}
 use Rattle.terms.specs.declared.refusal.Refusal.{Refusal}
 use Rattle.search.specs.Ends.{end-number, end-of}
 use Rattle.text.specs.Text.{decimal, line}
-use Rattle.numerals.specs.Reading.{Reading}
-use Rattle.numerals.specs.Reading as reading
+use Rattle.numerals.specs.TextReading.{Reading}
+use Rattle.numerals.specs.TextReading as reading
 use Rattle.question_reader.specs.Questions.{Asked}
-use Rattle.reader.specs.Lent.{question-into}
+use Rattle.reader.specs.LentBuffers.{question-into}
 use Rattle.writer.specs.Written.{list-written, text-of-list}
 use Rattle.results.specs.declared.written.Written.{Written}
 use Rattle.results.specs.declared.written.Written.the-variants.{Length, Refused}

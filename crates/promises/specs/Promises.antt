@@ -22,7 +22,7 @@ use Rattle.promises.specs.Runs.Lending.{more-lent, listed-begins}
 use Rattle.promises.specs.Runs.Ending.{visits-settle}
 use Rattle.promises.specs.Runs.Completing.{enough, done-whole}
 use Rattle.promises.specs.Runs.Naming.{names-within, never-names}
-use Rattle.promises.specs.Runs.Answering.{answers-in-form}
+use Rattle.promises.specs.Runs.AnswerForms.{answers-in-form}
 
 -- ---- demand 2: every answer true and none lost
 

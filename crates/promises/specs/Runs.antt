@@ -6,5 +6,5 @@ pub mod Visiting
 pub mod Measures
 pub mod Ending
 pub mod Naming
-pub mod Answering
+pub mod AnswerForms
 pub mod Completing

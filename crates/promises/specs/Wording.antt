@@ -9,7 +9,7 @@ use Rattle.terms.specs.Answers.{Named, answer-words}
 use Rattle.terms.specs.Listing.{Bound}
 use Rattle.search.specs.declared.ends.End.the-variants.{Done}
 use Rattle.search.specs.Run.{Loan, Outcome, Visit, found}
-use Rattle.invariants.specs.Solved.{Solved}
+use Rattle.invariants.specs.SolvedForm.{Solved}
 
 -- ---- of two runs
 

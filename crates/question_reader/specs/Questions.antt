@@ -7,10 +7,10 @@ use Rattle.terms.specs.Bounds.{Bounds}
 use Rattle.terms.specs.declared.refusal.Cause.the-variants.{Byte}
 use Rattle.text.specs.Keys.{left-key, right-key}
 use Rattle.text.specs.Text.{choose}
-use Rattle.numerals.specs.Reading.{Reading, read, refused, fault, and-then}
+use Rattle.numerals.specs.TextReading.{Reading, read, refused, fault, and-then}
 use Rattle.numerals.specs.Bytes.{byte, meets, line-feed, stopped}
 use Rattle.term_reader.specs.Terms.{whole-term}
-use Rattle.header_reader.specs.Header.{Header, header}
+use Rattle.header_reader.specs.HeaderText.{Header, header}
 use Rattle.results.specs.declared.read.Question.{Question}
 use Rattle.results.specs.declared.read.Question.the-variants.{Read, Refused}
 

@@ -13,9 +13,9 @@ use Rattle.terms.specs.declared.refusal.Cause.the-variants.{Byte, Limit}
 use Rattle.text.specs.Keys.{edition-key, unknowns-key, arities-key, equations-key, left-key, right-key}
 use Rattle.numerals.specs.Bytes.{byte}
 use Rattle.term_reader.specs.Terms.{whole-term}
-use Rattle.header_reader.specs.Header.{line, arity-list, arity-line, Header, header}
+use Rattle.header_reader.specs.HeaderText.{line, arity-list, arity-line, Header, header}
 use Rattle.question_reader.specs.Questions.{side, equation, equations, question}
-use Rattle.term_reader.specs.Places.{Placed, goes-on, stops, sooner, onward, Any, there, key-placed, between-placed, term-placed}
+use Rattle.term_reader.specs.ReadingPlaces.{Placed, goes-on, stops, sooner, onward, Any, there, key-placed, between-placed, term-placed}
 
 abbrev pub Bytes : List ℕ → Type 0
 Bytes key = All (λ b. b < 256) key

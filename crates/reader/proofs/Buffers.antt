@@ -9,9 +9,9 @@ use lib.Seq.{length-take-le}
 use Rattle.terms.specs.Bounds.{Bounds, edition-one}
 use Rattle.terms.specs.declared.refusal.Cause.the-variants.{Buffer}
 use Rattle.terms.specs.declared.refusal.Refusal.{Refusal}
-use Rattle.numerals.specs.Reading.{read, refused, then-read, then-refused}
+use Rattle.numerals.specs.TextReading.{read, refused, then-read, then-refused}
 use Rattle.question_reader.specs.Questions.{Asked, question, of-question, Counts}
-use Rattle.reader.specs.Lent.{fitted, question-into, answer, laid, arities-of, words-of, ReadGives}
+use Rattle.reader.specs.LentBuffers.{fitted, question-into, answer, laid, arities-of, words-of, ReadGives}
 use Rattle.results.specs.declared.read.Question.{Question}
 use Rattle.results.specs.declared.read.Question.the-variants.{Read, Refused}
 

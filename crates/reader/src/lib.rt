@@ -1,3 +1,3 @@
-// How a question's text becomes words in lent buffers: `read_question`. In specs/, `Lent` says what it answers and what the buffers hold then.
+// How a question's text becomes words in lent buffers: `read_question`. In specs/, `LentBuffers` says what it answers and what the buffers hold then.
 
 pub mod question;

@@ -4,7 +4,7 @@ ghost use mathlib.Core.List.{_++_};
 ghost use Prim.Native.Nat.{_≤_};
 ghost use lib.ListN.{length, take, drop};
 ghost use Rattle.terms.specs.Bounds.{edition-one};
-ghost use Rattle.reader.specs.Lent.{ReadGives, question-into};
+ghost use Rattle.reader.specs.LentBuffers.{ReadGives, question-into};
 use question_reader::whole::read_whole;
 use results::read::Question;
 use terms::bounds;

@@ -1,2 +1,2 @@
-pub mod Listing
-pub mod Noting
+pub mod AnswerPut
+pub mod AnswerNoted

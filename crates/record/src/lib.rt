@@ -1,6 +1,6 @@
 // The running record of nodes visited, answers and words used, and the answers themselves, which are listed in the lent words.
 //
-// In specs/, `Counts` says what the record becomes and which words an answer adds; `Answering` has the laws of a row's answer: where the row holds a state,
+// In specs/, `Counts` says what the record becomes and which words an answer adds; `RowAnswer` has the laws of a row's answer: where the row holds a state,
 // it is the answer that the state is.
 ghost use mathlib.Core.Path.{_≡_};
 ghost use Prim.Native.Nat.{_+_, _≤_, _<_, _^_};

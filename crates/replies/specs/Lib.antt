@@ -1,3 +1,3 @@
 pub mod Answered
 pub mod Replies
-pub mod Room
+pub mod RoomForC

@@ -1,7 +1,7 @@
 // What an answer is told as to C: which status and which out numbers it gives. A granted call has status 0, its out numbers are written, and the place is
 // left alone; a refused one has the refusal's number for status, and the place alone is written. `mensorique_c` has the calls.
 //
-// In specs/, `Replies` has the definitions, `Room` the words of a run's room.
+// In specs/, `Replies` has the definitions, `RoomForC` the words of a run's room.
 ghost use mathlib.Core.Path.{_≡_};
 ghost use mathlib.Core.List.{[], _∷_};
 ghost use Rattle.terms.specs.Refusal.{number};

@@ -13,7 +13,7 @@ use Rattle.terms.specs.declared.refusal.Cause.the-variants.{Limit, Buffer}
 use Rattle.terms.specs.declared.refusal.Refusal.{Refusal}
 use Rattle.search.specs.declared.limits.Lent.{Lent}
 use Rattle.search.specs.declared.limits.Lent.the-variants.{Within, Above}
-use Rattle.search.specs.Lent.{lent}
+use Rattle.search.specs.RunLimits.{lent}
 use Rattle.search.specs.Run.{Outcome, ran}
 use Rattle.results.specs.Loans.{loan, needed, ending}
 use Rattle.results.specs.declared.ran.Ran.{Ran}

@@ -15,7 +15,7 @@ use Rattle.terms.specs.declared.refusal.Checked.the-variants.{Fine, Refused as 
 use Rattle.checks.specs.Check.{check-question, after-check}
 use Rattle.search.specs.declared.limits.Limits.{Limits}
 use Rattle.search.specs.declared.limits.Lent.the-variants.{Within, Above}
-use Rattle.search.specs.Lent.{lent}
+use Rattle.search.specs.RunLimits.{lent}
 use Rattle.search.specs.Run.{Outcome, ran}
 use Rattle.results.specs.declared.ran.Ending.{Ending}
 use Rattle.results.specs.declared.ran.Ran.{Ran}

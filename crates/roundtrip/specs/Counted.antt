@@ -9,7 +9,7 @@ use lib.Dec.{eqb, ltb}
 use lib.ListN.{length, getD, length-append}
 use Rattle.terms.specs.Bounds.{Bounds}
 use Rattle.terms.specs.Lists.{cases}
-use Rattle.numerals.specs.Reading.{Reading, read, refused}
+use Rattle.numerals.specs.TextReading.{Reading, read, refused}
 use Rattle.numerals.specs.Bytes.{byte}
 use Rattle.numerals.specs.Numbers.{number}
 use Rattle.items.specs.Items.{Coming, due, done, begins, symbol, name, due-member, due-tail, close-empty, an-unknown, arguments, a-functor, a-set, beginning, after, after-tail, after-member, after-argument}

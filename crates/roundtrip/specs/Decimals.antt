@@ -10,7 +10,7 @@ use lib.ListN.{length, drop}
 use Rattle.terms.specs.Lists.{All, none, both, cases}
 use Rattle.text.specs.Text.{decimal}
 use Rattle.text.specs.Decimal.{last-digit, by-digits, decimal-digit, decimal-more, decimal-bytes, decimal-length}
-use Rattle.numerals.specs.Reading.{read, then-read}
+use Rattle.numerals.specs.TextReading.{read, then-read}
 use Rattle.numerals.specs.Bytes.{byte}
 use Rattle.numerals.specs.Numbers.{digit, digits, number, between, digit-below, digit-value, digit-above}
 use Rattle.roundtrip.specs.Suffix.{first-byte, after-byte, no-byte}

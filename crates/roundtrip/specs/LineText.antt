@@ -15,11 +15,11 @@ use Rattle.text.specs.Keys.{arities-key}
 use Rattle.text.specs.Text.{decimal, numbers, further-numbers, text, line}
 use Rattle.text.specs.Decimal.{decimal-bytes, decimal-some}
 use Rattle.text.specs.Sizes.{line-length}
-use Rattle.numerals.specs.Reading.{read, then-read}
+use Rattle.numerals.specs.TextReading.{read, then-read}
 use Rattle.numerals.specs.Bytes.{byte}
 use Rattle.term_reader.specs.Terms.{whole-term}
-use Rattle.header_reader.specs.Header.{arity-list, arity-line}
-use Rattle.header_reader.specs.Header as header
+use Rattle.header_reader.specs.HeaderText.{arity-list, arity-line}
+use Rattle.header_reader.specs.HeaderText as header
 use Rattle.question_reader.specs.Questions.{side}
 use Rattle.roundtrip.specs.Suffix.{first-byte, after-byte, after-bytes, key-read}
 use Rattle.roundtrip.specs.Decimals.{early, Digits, between-read}

@@ -10,7 +10,7 @@ use lib.ListN.{length, drop, getD}
 use Rattle.terms.specs.Bounds.{Bounds}
 use Rattle.terms.specs.Term.{Term, Terms, unknown, empty, with, functor, none, more}
 use Rattle.text.specs.Text.{decimal, unknown-name, functor-name, text, after-member, arguments, after-argument}
-use Rattle.numerals.specs.Reading.{read, then-read}
+use Rattle.numerals.specs.TextReading.{read, then-read}
 use Rattle.numerals.specs.Bytes.{byte}
 use Rattle.items.specs.Items.{done, begins, symbol, name, an-unknown, a-functor, beginning}
 use Rattle.items.specs.Items as items

@@ -12,11 +12,11 @@ use Rattle.terms.specs.Term.{Term, words, nesting}
 use Rattle.terms.specs.Formed.{Formed, Equation, sides, Question, row, Good}
 use Rattle.text.specs.Keys.{edition-key, unknowns-key, arities-key, equations-key, left-key, right-key}
 use Rattle.text.specs.Text.{decimal, numbers, further-numbers, text, line, equation-lines, question-text}
-use Rattle.numerals.specs.Reading.{read}
+use Rattle.numerals.specs.TextReading.{read}
 use Rattle.numerals.specs.Bytes.{byte}
 use Rattle.term_reader.specs.Terms.{whole-term}
-use Rattle.header_reader.specs.Header.{arity-list, arity-line, Header, header}
-use Rattle.header_reader.specs.Header as header
+use Rattle.header_reader.specs.HeaderText.{arity-list, arity-line, Header, header}
+use Rattle.header_reader.specs.HeaderText as header
 use Rattle.question_reader.specs.Questions.{Asked, side, equation, equations, question}
 use Rattle.question_reader.specs.WholePlaces.{Bytes, literal}
 use Rattle.roundtrip.specs.Spans.{Holds, goes, stops, told, holds-then, holds-map, holds-both, one-test, join, key-holds, between-holds}

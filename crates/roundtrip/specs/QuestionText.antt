@@ -10,8 +10,8 @@ use Rattle.terms.specs.Term.{Term, words, nesting}
 use Rattle.terms.specs.Formed.{Formed, Equation, sides, Question, row, Good}
 use Rattle.text.specs.Keys.{edition-key, unknowns-key, arities-key, equations-key, left-key, right-key}
 use Rattle.text.specs.Text.{decimal, numbers, text, line, equation-lines, question-text}
-use Rattle.numerals.specs.Reading.{read, then-read}
-use Rattle.header_reader.specs.Header.{header}
+use Rattle.numerals.specs.TextReading.{read, then-read}
+use Rattle.header_reader.specs.HeaderText.{header}
 use Rattle.question_reader.specs.Questions.{Asked, equation, equations, question}
 use Rattle.roundtrip.specs.Suffix.{no-byte, after-bytes}
 use Rattle.roundtrip.specs.LineText.{number-line, arity-line-read, side-read}

@@ -14,7 +14,7 @@ use Rattle.terms.specs.Lists.{All, none, both, cases}
 use Rattle.terms.specs.declared.refusal.Refusal.{Refusal}
 use Rattle.text.specs.Text.{decimal}
 use Rattle.text.specs.Decimal.{last-digit, decimal-digit, decimal-more}
-use Rattle.numerals.specs.Reading.{Reading, read, refused, and-then}
+use Rattle.numerals.specs.TextReading.{Reading, read, refused, and-then}
 use Rattle.numerals.specs.Bytes.{byte, byte-in, in-text, met, meets}
 use Rattle.numerals.specs.Numbers.{digit, digits, number, between}
 

@@ -7,7 +7,7 @@ use mathlib.Core.List.{List, [], _∷_, _++_}
 use borrow.Author.Tests.{eq-eqb}
 use lib.ListN.{length, drop, getD, length-drop}
 use lib.Seq.{getD-drop, drop-drop, drop-append-seam}
-use Rattle.numerals.specs.Reading.{read}
+use Rattle.numerals.specs.TextReading.{read}
 use Rattle.numerals.specs.Bytes.{byte, met, meets}
 use Rattle.numerals.specs.declared.bytes.Met.the-variants.{At}
 

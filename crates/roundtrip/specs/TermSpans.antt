@@ -12,7 +12,7 @@ use Rattle.terms.specs.Lists.{cases}
 use Rattle.terms.specs.Term.{Term, Terms, unknown, empty, with, functor, none, more, words, words*, count, nesting, inside, deepest}
 use Rattle.terms.specs.Formed.{Formed, Formed*, formed-unknown, formed-empty, formed-with, formed-functor, formed-none, formed-more}
 use Rattle.text.specs.Text.{decimal, unknown-name, functor-name, text, after-member, arguments, after-argument}
-use Rattle.numerals.specs.Reading.{and-then}
+use Rattle.numerals.specs.TextReading.{and-then}
 use Rattle.numerals.specs.Bytes.{byte}
 use Rattle.items.specs.Items.{Coming, due, done, begins, symbol, name, due-member, due-tail, close-empty, an-unknown, a-functor, a-set, beginning, after, after-tail, after-member as member-passed, after-argument as argument-passed}
 use Rattle.items.specs.Items as items

@@ -11,7 +11,7 @@ use Rattle.terms.specs.Bounds.{Bounds}
 use Rattle.terms.specs.Term.{Term, Terms, unknown, empty, with, functor, none, more, words, words*, count, nesting, inside, bracketed, deepest}
 use Rattle.terms.specs.Formed.{Formed, Formed*, formed-unknown, formed-with, formed-functor, formed-more}
 use Rattle.text.specs.Text.{decimal, unknown-name, functor-name, text, after-member, arguments, after-argument}
-use Rattle.numerals.specs.Reading.{Reading, read, and-then, then-read}
+use Rattle.numerals.specs.TextReading.{Reading, read, and-then, then-read}
 use Rattle.numerals.specs.Bytes.{byte, in-text}
 use Rattle.items.specs.Items.{Coming, due, done, symbol, due-member, due-tail, close-empty, a-set, beginning, after, after-tail, after-member as member-passed, after-argument as argument-passed}
 use Rattle.items.specs.Items as items

@@ -1,10 +1,10 @@
 pub mod Ends
-pub mod Lent
+pub mod RunLimits
 pub mod State
 pub mod StateWords
 pub mod Classify
 pub mod Children
-pub mod Entries
+pub mod PileEntries
 pub mod StepView
 pub mod Run
 pub mod Verdicts

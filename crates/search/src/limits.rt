@@ -1,6 +1,6 @@
 // The run limits: steps 0 to 1,000,000,000; depth 0 to 1,024; size 0 to 8,192.
 ghost use mathlib.Core.Path.{_≡_};
-ghost use Rattle.search.specs.Lent.{lent};
+ghost use Rattle.search.specs.RunLimits.{lent};
 
 pub struct Limits {
     pub steps: u64,

@@ -19,13 +19,13 @@ use Rattle.visits.specs.declared.node.Turn.{Turn}
 use Rattle.visits.specs.declared.node.Turn.the-variants.{End}
 use Rattle.pick_loop.specs.Shown.{Looks}
 use Rattle.children.specs.Looking.{Looking}
-use Rattle.visits.specs.Number.{number-of, number-words, number-back}
-use Rattle.visits.specs.Visiting.{OpenParts, most-of, back-to, due-ending, node-turn, node-room, node-answers}
+use Rattle.visits.specs.ChildNumber.{number-of, number-words, number-back}
+use Rattle.visits.specs.DueNode.{OpenParts, most-of, back-to, due-ending, node-turn, node-room, node-answers}
 use Rattle.search_loop.specs.Running.{Given, scratch-of, Running, Turned}
 use Rattle.search_loop.proofs.Desking.{looking, open-then-spent, open-then-live}
-use Rattle.search_loop.proofs.Entering.{live-parts, turned-live}
-use Rattle.search_loop.proofs.Meeting.{turned-names, turned-large, turned-dead}
-use Rattle.search_loop.proofs.Standing.{row-here}
+use Rattle.search_loop.proofs.OpenedNode.{live-parts, turned-live}
+use Rattle.search_loop.proofs.UnopenedNode.{turned-names, turned-large, turned-dead}
+use Rattle.search_loop.proofs.GoesOn.{row-here}
 use Rattle.search_loop.proofs.Turning.{Told, told-few, due-few, node-few, turned-spent, turned-due}
 
 module _ {arities : List ℕ} {limits : Limits} {l a : List ℕ} {level shown : ℕ} {r : Record} {to : Given} (R : Running arities limits l a level shown r to) where

@@ -1,8 +1,8 @@
 pub mod Desking
-pub mod Entering
+pub mod OpenedNode
 pub mod Hearing
 pub mod Looping
-pub mod Meeting
+pub mod UnopenedNode
 pub mod Sounding
-pub mod Standing
+pub mod GoesOn
 pub mod Turning

@@ -18,7 +18,7 @@ use Rattle.search.specs.State.{State, Node, dead, live}
 use Rattle.search.specs.Children.{children}
 use Rattle.search.specs.Run.{Visit, visit, dead-visit, stops, verdict, scan}
 use Rattle.turns.specs.Going.{Open, resumed, left, to-come, to-come-spent, to-come-dead, to-come-live, run-stops}
-use Rattle.turns.specs.Numbers.{drop-next}
+use Rattle.turns.specs.ChoiceNumbers.{drop-next}
 use Rattle.rows.specs.declared.parts.Made.{Made}
 use Rattle.results.specs.declared.ran.Record.{Record}
 use Rattle.record.specs.Counts.{counted}
@@ -27,12 +27,12 @@ use Rattle.only_child.specs.declared.next.Next.the-variants.{Spent, Node as Fou
 use Rattle.visits.specs.declared.node.Turn.the-variants.{End}
 use Rattle.only_child.specs.Next.{Tells, all-dead, then-live, then-due, Child}
 use Rattle.search_loop.specs.Desk.{Desk}
-use Rattle.search_loop.specs.Passing.{spent-stops, deep-stops}
+use Rattle.search_loop.specs.ChildrenPassed.{spent-stops, deep-stops}
 use Rattle.search_loop.specs.Path.{Rows, rows-kept}
 use Rattle.results.specs.Loans.{loan}
-use Rattle.visits.specs.Visiting.{most-of, back-to, due-ending}
+use Rattle.visits.specs.DueNode.{most-of, back-to, due-ending}
 use Rattle.search_loop.specs.Running.{Given, given, remains, Suits, scratch-of, Running, Turned, goes, ends}
-use Rattle.search_loop.proofs.Standing.{rows-above, passed, most-few, most-left}
+use Rattle.search_loop.proofs.GoesOn.{rows-above, passed, most-few, most-left}
 
 -- ---- a run that ends
 

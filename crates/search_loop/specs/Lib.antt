@@ -1,4 +1,4 @@
 pub mod Desk
-pub mod Passing
+pub mod ChildrenPassed
 pub mod Path
 pub mod Running

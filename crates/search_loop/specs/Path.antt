@@ -13,7 +13,7 @@ use Rattle.search.specs.State.{State, state-size}
 use Rattle.invariants.specs.Orderly.{Orderly}
 use Rattle.turns.specs.Going.{Open}
 use Rattle.rows.specs.Row.{Holds, Fresh}
-use Rattle.visits.specs.Number.{number-words, number-none}
+use Rattle.visits.specs.ChildNumber.{number-words, number-none}
 
 -- a row that holds an open state; no more of its children than so many were visited
 pub record Row (arities : List ℕ) (size visited : ℕ) (l : List ℕ) (at : ℕ) (o : Open) : Type 0 where

@@ -1,6 +1,6 @@
 // How the whole tree is visited, turn by turn: the rows of the path stand in the lent room.
 //
-// In specs/, `Running` is the loop's invariant, over `Path`, the rows of the path, and `Desk`, the split that stands open; `Passing` has the laws of dead
+// In specs/, `Running` is the loop's invariant, over `Path`, the rows of the path, and `Desk`, the split that stands open; `ChildrenPassed` has the laws of dead
 // ends passed at once.
 
 pub mod turn;

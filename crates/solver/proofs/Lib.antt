@@ -1,3 +1,3 @@
-pub mod Starting
+pub mod RootRun
 pub mod Rooting
-pub mod Telling
+pub mod TestsPassed

@@ -20,12 +20,12 @@ use Rattle.invariants.specs.Tree.{start, start-orderly}
 use Rattle.turns.specs.Going.{left, resumed-none, left-none, to-come, to-come-root}
 use Rattle.rows.specs.Header.{header-of}
 use Rattle.rows.specs.Row.{Fresh, header-for, header-words}
-use Rattle.search_loop.specs.Passing.{spent-stops, large-stops}
+use Rattle.search_loop.specs.ChildrenPassed.{spent-stops, large-stops}
 use Rattle.results.specs.Loans.{loan, ending}
 use Rattle.results.specs.Result.{gives}
 use Rattle.search_loop.specs.Running.{given, remains, Ends}
 use Rattle.solver.specs.Start.{rooted, nothing, Asking, whole-run, Rooted}
-use Rattle.solver.proofs.Starting.{row-fits, ends-as}
+use Rattle.solver.proofs.RootRun.{row-fits, ends-as}
 use Rattle.search_loop.proofs.Turning.{stops-here, suits-kept}
 
 module _ {unknowns : ℕ} {arities ws : List ℕ} {limits : Limits} {l : List ℕ} (A : Asking unknowns arities ws limits l) where

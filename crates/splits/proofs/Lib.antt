@@ -1,6 +1,6 @@
-pub mod Keeping
-pub mod Entering
+pub mod NothingBound
+pub mod SameTail
 pub mod Sharing
-pub mod Values
+pub mod SharedValues
 pub mod Twice
-pub mod Renewing
+pub mod BothBound

@@ -24,10 +24,10 @@ use Rattle.rows.specs.Row.{Rested, Makes, header-for}
 use Rattle.binding.specs.Child.{ahead, finish-makes}
 use Rattle.choices.specs.declared.sides.Sides.{Sides}
 use Rattle.choices.specs.Gathered.{joining-piece, TailParts}
-use Rattle.choices.specs.Opened.{Parent, Opened}
+use Rattle.choices.specs.OpenParent.{Parent, Opened}
 use Rattle.splits.specs.Shared.{Sharing, Again}
-use Rattle.tails.proofs.Opening.{numbers, s-noted, r-noted, left-parts, right-parts, left-is, right-is}
-use Rattle.splits.proofs.Entering.{opened-up}
+use Rattle.tails.proofs.OpenSplit.{numbers, s-noted, r-noted, left-parts, right-parts, left-is, right-is}
+use Rattle.splits.proofs.SameTail.{opened-up}
 
 -- ---- U, then T
 

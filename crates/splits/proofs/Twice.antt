@@ -19,7 +19,7 @@ use Rattle.terms.specs.Substitution.{formed-wider, formed-subst}
 use Rattle.terms.specs.Members.{formed-members, formed-over}
 use Rattle.search.specs.State.{State, live, state-size}
 use Rattle.search.specs.Children.{bound-state, kept, others}
-use Rattle.search.specs.Entries.{All-others}
+use Rattle.search.specs.PileEntries.{All-others}
 use Rattle.rows.specs.declared.parts.Rest.{Rest}
 use Rattle.rows.specs.declared.parts.Made.{Made}
 use Rattle.rows.specs.declared.parts.Made.the-variants.{Large, Live}
@@ -28,12 +28,12 @@ use Rattle.rows.specs.Row.{Makes, becomes}
 use Rattle.binding.specs.Child.{ahead}
 use Rattle.turns.specs.Picking.{joining-by}
 use Rattle.choices.specs.declared.sides.Sides.{Sides}
-use Rattle.choices.specs.Opened.{Parent, Opened, Elsewhere, elsewhere-next, own-right, to-left}
+use Rattle.choices.specs.OpenParent.{Parent, Opened, Elsewhere, elsewhere-next, own-right, to-left}
 use Rattle.tails.specs.Bound.{Bound, BoundParts, BoundMade, bound-child}
-use Rattle.splits.specs.Kept.{fourth}
-use Rattle.splits.specs.Occurring.{bound-size}
+use Rattle.splits.specs.KeptTails.{fourth}
+use Rattle.splits.specs.OccursAfter.{bound-size}
 use Rattle.splits.specs.Shared.{Again, AgainParts, AgainMade, Twice, first-value, second-value, half, twice, sixth}
-use Rattle.tails.proofs.Opening.{numbers}
+use Rattle.tails.proofs.OpenSplit.{numbers}
 use Rattle.tails.proofs.Making.{Below, makes-before, makes-large, due-target, due-elsewhere}
 
 -- ---- terms stay formed

@@ -1,3 +1,3 @@
-pub mod Kept
-pub mod Occurring
+pub mod KeptTails
+pub mod OccursAfter
 pub mod Shared

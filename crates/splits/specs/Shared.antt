@@ -22,10 +22,10 @@ use Rattle.replace.specs.declared.Copied.{Copied}
 use Rattle.replace.specs.declared.Copied.the-variants.{Done}
 use Rattle.choices.specs.declared.sides.Sides.{Sides}
 use Rattle.splits.specs.declared.different.Joined.{Joined}
-use Rattle.choices.specs.Opened.{Parent, Opened, Elsewhere, to-left, to-right, news}
+use Rattle.choices.specs.OpenParent.{Parent, Opened, Elsewhere, to-left, to-right, news}
 use Rattle.tails.specs.Due.{Due}
 use Rattle.tails.specs.Bound.{Target}
-use Rattle.splits.specs.Kept.{fourth}
+use Rattle.splits.specs.KeptTails.{fourth}
 
 -- ---- U and T
 

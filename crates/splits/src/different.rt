@@ -2,7 +2,7 @@
 ghost use mathlib.Core.Path.{_≡_};
 ghost use mathlib.Core.Bool.{_||_, _&&_};
 ghost use Rattle.rows.specs.Flat.{holds};
-ghost use Rattle.splits.specs.Kept.{EntryParts};
+ghost use Rattle.splits.specs.KeptTails.{EntryParts};
 ghost use Rattle.splits.specs.Shared.{JoinedLaid, ShareParts, ShareMade, AgainParts, AgainMade, TwiceParts, TwiceMade, RenewParts, RenewMade};
 ghost use Rattle.search.specs.declared.steps.Tails.the-variants.{Different};
 ghost use Rattle.tails.specs.Due.{ChildParts, ChildMade};

@@ -2,7 +2,7 @@
 ghost use Rattle.search.specs.declared.steps.Tails.the-variants.{Neither, Same};
 ghost use Rattle.rows.specs.Wrote.{Wrote};
 ghost use Rattle.tails.specs.Due.{ChildParts, ChildMade};
-ghost use Rattle.splits.specs.Kept.{tails-piece, TailsParts, EntryParts, EntryLaid};
+ghost use Rattle.splits.specs.KeptTails.{tails-piece, TailsParts, EntryParts, EntryLaid};
 use binding::keep::keep;
 use choices::equations::equations;
 use choices::sides::Sides;

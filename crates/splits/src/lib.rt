@@ -4,7 +4,7 @@
 //     different  both are, and they differ: two bindings, one after the other
 //     split      by the kind of the tails
 //
-// In specs/, `Kept` and `Shared` say what is laid out on the way, `Occurring` when a tail would be bound inside itself.
+// In specs/, `KeptTails` and `Shared` say what is laid out on the way, `OccursAfter` when a tail would be bound inside itself.
 
 pub mod different;
 pub mod kept;

@@ -29,9 +29,9 @@ use Rattle.rows.specs.Row.{Makes}
 use Rattle.binding.specs.Child.{Stands, ahead, finish-makes}
 use Rattle.choices.specs.declared.sides.Sides.{Sides}
 use Rattle.choices.specs.Gathered.{equations-piece, MeetParts}
-use Rattle.choices.specs.Opened.{Parent, Opened, opened-after, news}
+use Rattle.choices.specs.OpenParent.{Parent, Opened, opened-after, news}
 use Rattle.tails.specs.Bound.{Bound, bound-child, BoundMade}
-use Rattle.tails.proofs.Opening.{Numbers, numbers, equation-parts, equations-is}
+use Rattle.tails.proofs.OpenSplit.{Numbers, numbers, equation-parts, equations-is}
 use Rattle.tails.proofs.Making.{below-same, below-put, makes-before, makes-dead, makes-large, wrote-elsewhere}
 
 -- the new equations alone are no larger than the child

@@ -1,6 +1,6 @@
 pub mod Bounding
-pub mod Joining
-pub mod Laying
+pub mod JoiningMembers
+pub mod ValueLaid
 pub mod Making
-pub mod Opening
+pub mod OpenSplit
 pub mod Tailing

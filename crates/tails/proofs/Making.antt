@@ -19,7 +19,7 @@ use Rattle.rows.specs.Finished.{Finished, made-large}
 use Rattle.rows.specs.Wrote.{Wrote}
 use Rattle.rows.specs.Row.{Makes, becomes}
 use Rattle.choices.specs.declared.sides.Sides.{Sides}
-use Rattle.choices.specs.Opened.{Parent, Elsewhere, elsewhere-next, elsewhere-put, opened-after}
+use Rattle.choices.specs.OpenParent.{Parent, Elsewhere, elsewhere-next, elsewhere-put, opened-after}
 use Rattle.tails.specs.Due.{Due, ChildMade, child}
 use Rattle.tails.specs.Bound.{Target}
 

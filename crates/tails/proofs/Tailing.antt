@@ -24,10 +24,10 @@ use Rattle.rows.specs.Row.{Makes}
 use Rattle.binding.specs.Child.{ahead}
 use Rattle.choices.specs.declared.sides.Sides.{Sides}
 use Rattle.tails.specs.Value.{value-piece, ValueParts}
-use Rattle.choices.specs.Opened.{Parent, Opened, Elsewhere, elsewhere-next, elsewhere-put, to-left, to-right, news}
+use Rattle.choices.specs.OpenParent.{Parent, Opened, Elsewhere, elsewhere-next, elsewhere-put, to-left, to-right, news}
 use Rattle.tails.specs.Bound.{Bound, BoundParts, TailMade}
 use Rattle.tails.specs.Due.{Due, child, child-is}
-use Rattle.tails.proofs.Opening.{numbers, s-stands, r-stands, s-noted, r-noted, left-parts, right-parts, left-is, right-is}
+use Rattle.tails.proofs.OpenSplit.{numbers, s-stands, r-stands, s-noted, r-noted, left-parts, right-parts, left-is, right-is}
 use Rattle.tails.proofs.Making.{Below, below-put, makes-before, due-target, due-elsewhere}
 
 -- ---- what the kind of the tails tells

@@ -13,7 +13,7 @@ use Rattle.rows.specs.declared.parts.Made.{Made}
 use Rattle.rows.specs.Row.{Makes}
 use Rattle.binding.specs.Child.{Stands, ahead}
 use Rattle.choices.specs.declared.sides.Sides.{Sides}
-use Rattle.choices.specs.Opened.{Parent, Opened, Elsewhere, news}
+use Rattle.choices.specs.OpenParent.{Parent, Opened, Elsewhere, news}
 
 -- the unknown `name` is bound to a value
 unfoldable pub bound-child : Parent → (next name : ℕ) → Term → Node

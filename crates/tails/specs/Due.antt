@@ -13,7 +13,7 @@ use Rattle.rows.specs.declared.parts.Made.{Made}
 use Rattle.rows.specs.Row.{Makes}
 use Rattle.turns.specs.Picking.{child-of}
 use Rattle.choices.specs.declared.sides.Sides.{Sides}
-use Rattle.choices.specs.Opened.{Parent, Opened, Elsewhere, own-left, own-right, to-left, to-right, news}
+use Rattle.choices.specs.OpenParent.{Parent, Opened, Elsewhere, own-left, own-right, to-left, to-right, news}
 
 unfoldable pub child : Parent → Node
 child p = child-of (tails (p .t) (p .u)) (p .t) (p .u) (p .st) (p .ds) (p .es)

@@ -6,14 +6,14 @@ use mathlib.Core.List.{List}
 use lib.ListN.{length, take}
 use Rattle.terms.specs.Bounds.{edition-one}
 use Rattle.terms.specs.declared.refusal.Refusal.{Refusal}
-use Rattle.numerals.specs.Reading.{Reading, read, refused, and-then, then-read, then-refused}
+use Rattle.numerals.specs.TextReading.{Reading, read, refused, and-then, then-read, then-refused}
 use Rattle.items.specs.Items.{Coming, due, done, beginning, after}
 use Rattle.term_reader.specs.Terms.{follow, term, list, term-step, list-step, of-got}
-use Rattle.term_reader.specs.Places.{where-on, beginning-placed, after-placed, term-placed}
+use Rattle.term_reader.specs.ReadingPlaces.{where-on, beginning-placed, after-placed, term-placed}
 use Rattle.items.specs.declared.item.Item.{Item}
 use Rattle.term_reader.specs.declared.term.Got.{Got}
 use Rattle.term_reader.specs.declared.term.Got.the-variants.{Read, Refused}
-use Rattle.term_reader.specs.Answers.{Term-read, Term-is}
+use Rattle.term_reader.specs.ReadingAnswers.{Term-read, Term-is}
 
 -- fuel that is above something is a successor
 fueled : (P : ℕ → Type 0) {m : ℕ} → ((fuel : ℕ) → m < suc fuel → P (suc fuel)) → (fuel : ℕ) → m < fuel → P fuel

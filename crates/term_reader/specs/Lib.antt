@@ -1,3 +1,3 @@
 pub mod Terms
-pub mod Places
-pub mod Answers
+pub mod ReadingPlaces
+pub mod ReadingAnswers

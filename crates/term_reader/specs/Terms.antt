@@ -6,7 +6,7 @@ use mathlib.Core.List.{List}
 use lib.ListN.{length, take}
 use Rattle.terms.specs.Bounds.{Bounds}
 use Rattle.terms.specs.declared.refusal.Cause.the-variants.{Byte}
-use Rattle.numerals.specs.Reading.{Reading, read, refused, fault, and-then}
+use Rattle.numerals.specs.TextReading.{Reading, read, refused, fault, and-then}
 use Rattle.items.specs.Items.{Coming, due, done, beginning, after}
 use Rattle.items.specs.declared.item.Item.{Item}
 use Rattle.term_reader.specs.declared.term.Got.{Got}

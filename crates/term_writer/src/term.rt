@@ -2,7 +2,7 @@
 ghost use Prim.Native.Nat.{_-_, _≤_, _<_};
 ghost use lib.ListN.{length};
 ghost use Rattle.terms.specs.Bounds.{edition-one};
-ghost use Rattle.pen.specs.Opened.{brackets};
+ghost use Rattle.pen.specs.OpenBrackets.{brackets};
 ghost use Rattle.pen.specs.Walk.{symbol, continues, word as written-word, term-at, Stepped, Passed};
 use pen::begin::Symbol;
 use pen::begin::begin;

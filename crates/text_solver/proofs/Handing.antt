@@ -7,13 +7,13 @@ use lib.ListN.{length, take, drop, length-append}
 use lib.Seq.{take-append-seam}
 use Rattle.terms.specs.Answers.{listed}
 use Rattle.terms.specs.declared.refusal.Refusal.{Refusal}
-use Rattle.numerals.specs.Reading.{Reading, read}
-use Rattle.numerals.specs.Reading as reading
+use Rattle.numerals.specs.TextReading.{Reading, read}
+use Rattle.numerals.specs.TextReading as reading
 use Rattle.question_reader.specs.Questions.{Asked}
 use Rattle.results.specs.declared.read.Question.{Question}
 use Rattle.results.specs.declared.read.Question.the-variants.{Read}
 use Rattle.results.specs.declared.read.Question.the-variants as question
-use Rattle.reader.specs.Lent.{ReadGives, answer, laid}
+use Rattle.reader.specs.LentBuffers.{ReadGives, answer, laid}
 use Rattle.results.specs.Loans.{ending}
 use Rattle.results.specs.declared.ran.Ending.{Ending}
 use Rattle.results.specs.Result.{RunGives, Told, refuses, gives, told, result}

@@ -1,3 +1,3 @@
-pub mod Numbers
+pub mod ChoiceNumbers
 pub mod Going
 pub mod Picking

@@ -16,7 +16,7 @@ use Rattle.terms.specs.Shape.{is-unknown}
 use Rattle.search.specs.declared.steps.Tails.{Tails}
 use Rattle.search.specs.State.{State, Node}
 use Rattle.search.specs.Children.{Pick, meets, joins, tail-pick, picks-of-t, picks-of-u, new-equations, joining, settle, split}
-use Rattle.turns.specs.Numbers.{drop-next, getD-first, drop-map, drop-flatMap, length-flatMap, choices, number, Digits, no-digit, digit, number-below, chosen, radices, length-product, drop-product}
+use Rattle.turns.specs.ChoiceNumbers.{drop-next, getD-first, drop-map, drop-flatMap, length-flatMap, choices, number, Digits, no-digit, digit, number-below, chosen, radices, length-product, drop-product}
 
 -- ---- one member's picks
 

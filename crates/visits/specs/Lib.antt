@@ -1,2 +1,2 @@
-pub mod Number
-pub mod Visiting
+pub mod ChildNumber
+pub mod DueNode

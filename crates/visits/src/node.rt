@@ -3,7 +3,7 @@ ghost use mathlib.Core.Path.{_≡_};
 ghost use Prim.Native.Nat.{_≤_};
 ghost use lib.ListN.{length};
 ghost use Rattle.rows.specs.declared.parts.Made.the-variants as kinds;
-ghost use Rattle.visits.specs.Visiting.{OpenParts, most-of, back-to, due-ending, node-turn, node-room, node-answers};
+ghost use Rattle.visits.specs.DueNode.{OpenParts, most-of, back-to, due-ending, node-turn, node-room, node-answers};
 use crate::number::set_number;
 use record::Noted;
 use record::note;

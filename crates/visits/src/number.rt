@@ -3,7 +3,7 @@ ghost use mathlib.Core.Path.{_≡_};
 ghost use Prim.Native.Nat.{_+_, _*_, _<_, _^_};
 ghost use lib.ListN.{length};
 ghost use Rattle.room.specs.Room.{put, Within};
-ghost use Rattle.visits.specs.Number.{number-of, number-words};
+ghost use Rattle.visits.specs.ChildNumber.{number-of, number-words};
 
 fn number_from(low: u16, high: u16) -> usize
     ensures { λ r. ⌜ r ≡ low + 65536 * high ⌝ }

@@ -1,2 +1,2 @@
-pub mod Questions
-pub mod Answering
+pub mod QuestionWalk
+pub mod WrittenAnswer

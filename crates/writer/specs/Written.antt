@@ -5,7 +5,7 @@ use mathlib.Core.List.{List, [], _++_}
 use lib.Dec.{ltb}
 use lib.ListN.{length, drop}
 use Rattle.search.specs.Ends.{end-of, end-word}
-use Rattle.search.specs.Lent.{most-steps}
+use Rattle.search.specs.RunLimits.{most-steps}
 use Rattle.search.specs.declared.ends.Listed.{Listed}
 use Rattle.search.specs.declared.ends.Listed.the-variants.{As, Nowhere}
 use Rattle.terms.specs.Answers.{Named}
@@ -22,7 +22,7 @@ use Rattle.terms.specs.declared.refusal.Checked.the-variants as checked
 use Rattle.text.specs.AnswerText.{list-text}
 use Rattle.text.specs.Text.{question-text}
 use Rattle.pen.specs.Depths.{First, all-within, first-at, first-above, row-depths}
-use Rattle.lines.specs.Listing.{list-depths}
+use Rattle.lines.specs.ListLines.{list-depths}
 use Rattle.pen.specs.Pen.{counted}
 use Rattle.pen.specs.Walk.{Walk, ended, too-deep, Passed}
 use Rattle.pen.specs.declared.put.Passage.{Passage}

@@ -13,8 +13,8 @@ use Rattle.laws.specs.Solving.{solves-below}
 use Rattle.search.specs.declared.ends.End.the-variants.{Done}
 use Rattle.search.specs.Run.{Loan, root, ran}
 use Rattle.answers.specs.Fits.{Fits}
-use Rattle.answers.specs.Runs.Scanning.{scan-each, scan-some}
-use Rattle.answers.specs.Runs.Visiting.{IsTrue, visits-true, visits-none-lost, kept-root, root-leads, meets-root}
+use Rattle.answers.specs.Runs.ScannedVisits.{scan-each, scan-some}
+use Rattle.answers.specs.Runs.TreeAnswers.{IsTrue, visits-true, visits-none-lost, kept-root, root-leads, meets-root}
 
 -- every symbol that a good question's answers may have has its word
 pub answers-worded : {b : Bounds} {q : Question} → Proper b → Good b q → Worded b (q .arities) (b .path-unknowns)

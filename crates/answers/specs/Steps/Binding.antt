@@ -17,7 +17,7 @@ use Rattle.laws.specs.Substitution.{value-bound}
 use Rattle.laws.specs.Rank.{occurs-inside, occurs-cases, not-inside-itself}
 use Rattle.search.specs.State.{State, Node, dead, live}
 use Rattle.search.specs.Children.{replace-in, entries, others, released, kept, bound-state, bound, then-bound}
-use Rattle.search.specs.Entries.{All-entries, All-others}
+use Rattle.search.specs.PileEntries.{All-entries, All-others}
 use Rattle.terms.specs.Lists.{All-first, All-unmap}
 use Rattle.answers.specs.Steps.Meaning.{HoldsNamed, MeetsState, MeetsNode, meets-live}
 

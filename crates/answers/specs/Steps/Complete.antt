@@ -20,12 +20,12 @@ use Rattle.search.specs.State.{State, Node, pend, renewed}
 use Rattle.search.specs.Classify.{classify}
 use Rattle.search.specs.Children.{pairwise, take, joined, join, children-by, children}
 use Rattle.search.specs.StepView.{Sided, as-written, turned-round, Stepped, drops-unknown, drops-empty, binds, postpones, decomposes, splits, dead-buried, dead-functors, dead-clash, stepped, take-bind, take-postpone}
-use Rattle.search.specs.Entries.{All-others}
+use Rattle.search.specs.PileEntries.{All-others}
 use Rattle.terms.specs.Lists.{All-first}
 use Rattle.answers.specs.Steps.Meaning.{HoldsNamed, MeetsState, meets-live}
-use Rattle.answers.specs.Steps.Parts.{after-added, after-piled}
+use Rattle.answers.specs.Steps.StateChanges.{after-added, after-piled}
 use Rattle.answers.specs.Steps.Binding.{never-dead, complete-bound}
-use Rattle.answers.specs.Steps.Pile.{joined-members}
+use Rattle.answers.specs.Steps.PileSays.{joined-members}
 use Rattle.answers.specs.Steps.Kept.{FormedEquation, Kept, Entry}
 use Rattle.answers.specs.Steps.DeadEnds.{buried-never, clash-never}
 use Rattle.answers.specs.Steps.Renewing.{given-other, given-new, named-new, Reaches, stay, renew}

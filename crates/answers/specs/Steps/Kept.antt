@@ -21,7 +21,7 @@ use Rattle.search.specs.declared.steps.Step.{Step}
 use Rattle.search.specs.State.{State, Node, dead, live, pend, piled, renewed}
 use Rattle.search.specs.Children.{replace-in, others, released, kept, bound-state, bound, then-bound, Pick, new-equations, pile-up, settle, pairwise, take, joined, join, children-by, children}
 use Rattle.search.specs.StepView.{Tailed, neither, left, right, different, same, Sided, Stepped, drops-unknown, drops-empty, binds, postpones, decomposes, splits, dead-buried, dead-functors, dead-clash, stepped, sided-name, sided-term, take-bind, take-postpone}
-use Rattle.search.specs.Entries.{All-entries, All-others}
+use Rattle.search.specs.PileEntries.{All-entries, All-others}
 use Rattle.answers.specs.Steps.Picks.{Chosen, no-choice, choice, Picks, picks-one, picks-tail, split-all, joining-all}
 use Rattle.answers.specs.Steps.Forming.{kernel-subst}
 use borrow.Author.Tests.{ne-eqb}

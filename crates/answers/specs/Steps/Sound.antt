@@ -24,10 +24,10 @@ use Rattle.search.specs.Children.{others, bound, Pick, new-equations, joining, 
 use Rattle.search.specs.StepView.{Tailed, neither, left, right, different, same, Sided, as-written, turned-round, Stepped, drops-unknown, drops-empty, binds, postpones, decomposes, splits, dead-buried, dead-functors, dead-clash, stepped, take-bind, take-postpone}
 use Rattle.terms.specs.Lists.{All-unmap}
 use Rattle.answers.specs.Steps.Meaning.{HoldsNamed, MeetsState, MeetsNode, meets-live, of-live, of-dead, written, over-values}
-use Rattle.answers.specs.Steps.Parts.{before-added, before-piled, before-renewed, before-pile-up}
+use Rattle.answers.specs.Steps.StateChanges.{before-added, before-piled, before-renewed, before-pile-up}
 use Rattle.answers.specs.Steps.Binding.{of-the-pile, sound-bound, sound-then-bound}
 use Rattle.answers.specs.Steps.Picks.{Chosen, Picks, t-first, t-second, split-all, sound-each, joining-all, no-tail}
-use Rattle.answers.specs.Steps.Pile.{has-members, entries-met}
+use Rattle.answers.specs.Steps.PileSays.{has-members, entries-met}
 use Rattle.answers.specs.Steps.Kept.{FormedEquation, Kept, Entry}
 
 -- T and U, picked among the members ts and us, and what the picks say where their equations es hold

@@ -23,7 +23,7 @@ use Rattle.search.specs.State.{State, pend}
 use Rattle.search.specs.Children.{joining, settle, split}
 use Rattle.search.specs.StepView.{Tailed, neither, left, right, different, same}
 use Rattle.answers.specs.Steps.Meaning.{MeetsState, MeetsNode, meets-live, written, values-over}
-use Rattle.answers.specs.Steps.Parts.{after-added, after-renewed, after-pile-up}
+use Rattle.answers.specs.Steps.StateChanges.{after-added, after-renewed, after-pile-up}
 use Rattle.answers.specs.Steps.Binding.{never-dead, complete-bound, complete-then-bound}
 use Rattle.answers.specs.Steps.Picks.{split-any, best-joining, best-equations}
 use Rattle.answers.specs.Steps.Forming.{kernel-subst}

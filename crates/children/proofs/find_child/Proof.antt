@@ -9,7 +9,7 @@ use Rattle.search.specs.declared.steps.Tails.{Tails}
 use Rattle.search.specs.declared.steps.Step.{Step}
 use Rattle.search.specs.declared.steps.Step.the-variants.{Split}
 use Rattle.children.proofs.Choosing.{nothing-pending, last-within, lent-small, rest-asked, splitting, single}
-use Rattle.pick_loop.proofs.Telling.{looks-kept, looks-opened}
+use Rattle.pick_loop.proofs.ToldBefore.{looks-kept, looks-opened}
 use borrow.Author.Needs.{needs}
 use Rattle.children.proofs.find_child.Statement.{statement}
 use Rattle.children.proofs.find_child.Tie as tie

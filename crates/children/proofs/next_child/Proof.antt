@@ -1,7 +1,7 @@
 -- `children::next_child`: `Leaving` has the law of a row that is left at once.
 use Rattle.children.proofs.Leaving.{left-at-once}
 use Rattle.only_child.proofs.Only.{unopened}
-use Rattle.pick_loop.proofs.Telling.{looks-kept}
+use Rattle.pick_loop.proofs.ToldBefore.{looks-kept}
 use borrow.Author.Needs.{needs}
 use Rattle.children.proofs.next_child.Statement.{statement}
 use Rattle.children.proofs.next_child.Tie as tie

@@ -22,17 +22,17 @@ use Rattle.search.specs.declared.ends.Listed.the-variants.{As}
 use Rattle.search.specs.Ends.{end-of}
 use Rattle.text.specs.AnswerText.{binding-lines, answer-lines, list-text}
 use Rattle.text.specs.Text.{digits, decimal, further-numbers, numbers, unknown-name, functor-name, text, line, equation-lines, question-text}
-use Rattle.numerals.specs.Reading.{and-then}
+use Rattle.numerals.specs.TextReading.{and-then}
 use Rattle.numerals.specs.Bytes.{byte, met, meets}
-use Rattle.header_reader.specs.Header.{header}
-use Rattle.header_reader.specs.Header as header
-use Rattle.reader.specs.Lent.{question-into, answer}
+use Rattle.header_reader.specs.HeaderText.{header}
+use Rattle.header_reader.specs.HeaderText as header
+use Rattle.reader.specs.LentBuffers.{question-into, answer}
 use Rattle.question_reader.specs.Questions as reader
 use Rattle.question_reader.specs.WholePlaces.{literal}
 use Rattle.results.specs.declared.read.Question.the-variants as reading
 use Rattle.pen.specs.Pen.{counted}
 use Rattle.pen.specs.Depths.{depths, row-depths, all-within, found, first-above}
-use Rattle.lines.specs.Listing.{binding-depths, list-depths}
+use Rattle.lines.specs.ListLines.{binding-depths, list-depths}
 use Rattle.same.specs.Answering.{equality-after, equal-answer, solving-after, solves-answer}
 use Rattle.writer.specs.Written.{held, fitted, nested, tested, too-deep-in, too-deep-in-list, question-written, check-list, text-of-list, list-written}
 use Rattle.results.specs.declared.written.Written.the-variants as writing

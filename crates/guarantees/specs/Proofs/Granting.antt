@@ -21,7 +21,7 @@ use Rattle.terms.specs.declared.refusal.Checked.the-variants.{Fine, Refused}
 use Rattle.search.specs.declared.ends.End.{End}
 use Rattle.search.specs.declared.ends.End.the-variants.{Done, Steps, Depth, Names, Size, Space}
 use Rattle.search.specs.Ends.{end-number}
-use Rattle.search.specs.Lent.{most-steps, most-depth, most-size}
+use Rattle.search.specs.RunLimits.{most-steps, most-depth, most-size}
 use Rattle.search.specs.Run.{Outcome, ran}
 use Rattle.results.specs.Loans.{loan, needed, ending}
 use Rattle.results.specs.Result.{Told, refuses, gives, told, told-within, result}

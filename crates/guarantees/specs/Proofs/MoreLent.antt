@@ -17,7 +17,7 @@ use Rattle.results.specs.Result.{gives}
 use Rattle.guarantees.specs.Calls.{Posed, asked, Lending, loan-of, in-room, run-told, answers-after, used}
 use Rattle.guarantees.specs.Wording.{Granted}
 use Rattle.guarantees.specs.Proofs.Granting.{granted-exactly, done-by-number}
-use Rattle.guarantees.specs.Proofs.Listing.{buffer-after}
+use Rattle.guarantees.specs.Proofs.GrantedList.{buffer-after}
 
 -- ---- two runs
 

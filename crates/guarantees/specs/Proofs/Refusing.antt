@@ -4,8 +4,8 @@ use mathlib.Core.Path.{_≡_, refl, ap, _∙_}
 use mathlib.Core.List.{List}
 use Rattle.room.specs.Room.{put-nil}
 use Rattle.terms.specs.declared.refusal.Refusal.{Refusal}
-use Rattle.numerals.specs.Reading.{Reading, read, refused}
-use Rattle.reader.specs.Lent.{answer, laid}
+use Rattle.numerals.specs.TextReading.{Reading, read, refused}
+use Rattle.reader.specs.LentBuffers.{answer, laid}
 use Rattle.question_reader.specs.Questions as reader
 use Rattle.results.specs.declared.read.Question.the-variants as reading
 use Rattle.writer.specs.Written.{held}

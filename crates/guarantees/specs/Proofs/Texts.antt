@@ -20,11 +20,11 @@ use Rattle.terms.specs.declared.refusal.Checked.{Checked}
 use Rattle.terms.specs.declared.refusal.Checked.the-variants.{Fine}
 use Rattle.terms.specs.declared.refusal.Checked.the-variants as checked
 use Rattle.text.specs.Text.{question-text}
-use Rattle.numerals.specs.Reading.{Reading, read, refused, and-then, then-read}
+use Rattle.numerals.specs.TextReading.{Reading, read, refused, and-then, then-read}
 use Rattle.question_reader.specs.Questions.{question as asks-of}
-use Rattle.reader.specs.Lent.{question-into, answer, laid}
+use Rattle.reader.specs.LentBuffers.{question-into, answer, laid}
 use Rattle.question_reader.specs.Questions as reader
-use Rattle.reader.specs.Lent as lent
+use Rattle.reader.specs.LentBuffers as lent
 use Rattle.results.specs.declared.read.Question.{Question as Counted}
 use Rattle.results.specs.declared.read.Question.the-variants.{Read}
 use Rattle.results.specs.declared.read.Question.the-variants as question
@@ -40,7 +40,7 @@ use Rattle.guarantees.specs.Wording.{Nests-within, Writable, Writes, Rea
 use Rattle.guarantees.specs.Proofs.{impossible}
 use Rattle.guarantees.specs.Proofs.Granting.{asked-exactly}
 use Rattle.guarantees.specs.Proofs.Nesting.{question-nests}
-use Rattle.guarantees.specs.Proofs.Numbers.{Numbered, passed, told-as, question-numbered}
+use Rattle.guarantees.specs.Proofs.RefusalNumbers.{Numbered, passed, told-as, question-numbered}
 
 -- ---- what is written
 

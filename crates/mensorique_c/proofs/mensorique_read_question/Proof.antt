@@ -1,6 +1,6 @@
 -- `mensorique_c::mensorique_read_question`: the question is read, and the answer told.
 use borrow.Author.Needs.{needs}
-use Rattle.mensorique_c.specs.Calls.{read-replied}
+use Rattle.mensorique_c.specs.CallsFromC.{read-replied}
 use Rattle.mensorique_c.proofs.mensorique_read_question.Statement.{statement}
 use Rattle.mensorique_c.proofs.mensorique_read_question.Tie as tie
 

@@ -1,6 +1,6 @@
 -- `mensorique_c::mensorique_run`: the question is run, and the answer told.
 use borrow.Author.Needs.{needs}
-use Rattle.mensorique_c.specs.Calls.{run-replied}
+use Rattle.mensorique_c.specs.CallsFromC.{run-replied}
 use Rattle.mensorique_c.proofs.mensorique_run.Statement.{statement}
 use Rattle.mensorique_c.proofs.mensorique_run.Tie as tie
 

@@ -1,6 +1,6 @@
 -- `mensorique_c::mensorique_write_answers`: the list is written, and the answer told.
 use borrow.Author.Needs.{needs}
-use Rattle.mensorique_c.specs.Calls.{write-replied}
+use Rattle.mensorique_c.specs.CallsFromC.{write-replied}
 use Rattle.mensorique_c.proofs.mensorique_write_answers.Statement.{statement}
 use Rattle.mensorique_c.proofs.mensorique_write_answers.Tie as tie
 

@@ -14,7 +14,7 @@ use Rattle.promises.specs.Runs.Measures.{Below, by-first, by-second, by-
 use Rattle.invariants.specs.Orderly.{Orderly}
 use Rattle.invariants.specs.Weight.{weights}
 use Rattle.invariants.specs.Falling.{unbound, Falls, ends-dead, fewer-unbound, lighter, shorter}
-use Rattle.invariants.specs.Joining.{children-fall}
+use Rattle.invariants.specs.JoinFalls.{children-fall}
 use Rattle.invariants.specs.Tree.{Formed-question, start, start-orderly}
 
 -- the tree from a node on has at most n levels

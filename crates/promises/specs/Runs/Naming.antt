@@ -19,7 +19,7 @@ use Rattle.invariants.specs.Tally.{tally-no-more, tally-most}
 use Rattle.invariants.specs.Orderly.{named, Orderly, usable-unbound}
 use Rattle.invariants.specs.Weight.{weights}
 use Rattle.invariants.specs.Falling.{unbound, waiting, Falls, ends-dead, fewer-unbound, lighter, shorter}
-use Rattle.invariants.specs.Joining.{children-fall}
+use Rattle.invariants.specs.JoinFalls.{children-fall}
 use Rattle.search.specs.Verdicts.{Judged, steps-spent, too-deep, too-many-names, too-large, judged}
 use Rattle.promises.specs.Runs.Visiting.{visits-each}
 use Rattle.invariants.specs.Tree.{Formed-question, start, start-orderly, Live, is-dead, is-live}

@@ -3,7 +3,7 @@ use mathlib.Core.Path.{ap, _∙_}
 use lib.ListN.{length, length-set}
 use native.Mathlib.Omega.{arith}
 use Rattle.room.specs.Room.{length-put}
-use Rattle.record.proofs.Listing.{part-length, listed-so}
+use Rattle.record.proofs.AnswerPut.{part-length, listed-so}
 use borrow.Author.Needs.{needs}
 use Rattle.record.proofs.list_answer.Statement.{statement}
 use Rattle.record.proofs.list_answer.Tie as tie

@@ -1,9 +1,9 @@
--- `record::note`: `Noting` says, for each way out, which answer the row's words are and whether they fit.
+-- `record::note`: `AnswerNoted` says, for each way out, which answer the row's words are and whether they fit.
 use mathlib.Core.Path.{sym}
 use native.Mathlib.Omega.{arith}
 use lib.Seq.{length-take-le}
-use Rattle.record.specs.Answering.{within-row}
-use Rattle.record.proofs.Noting.{pending-left, pile-left, too-long, held}
+use Rattle.record.specs.RowAnswer.{within-row}
+use Rattle.record.proofs.AnswerNoted.{pending-left, pile-left, too-long, held}
 use borrow.Author.Needs.{needs}
 use Rattle.record.proofs.note.Statement.{statement}
 use Rattle.record.proofs.note.Tie as tie

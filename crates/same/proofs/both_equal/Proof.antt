@@ -2,7 +2,7 @@ use mathlib.Core.Path.{_∙_, sym}
 use native.Mathlib.Omega.{arith}
 use lib.Seq.{length-take-le}
 use borrow.Author.Needs.{needs}
-use Rattle.same.proofs.Entering.{two-short, two-equations, two-told}
+use Rattle.same.proofs.CheckedTerms.{two-short, two-equations, two-told}
 use Rattle.same.proofs.both_equal.Statement.{statement}
 use Rattle.same.proofs.both_equal.Tie as tie
 

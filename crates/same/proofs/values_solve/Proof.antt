@@ -4,7 +4,7 @@ use native.Mathlib.Omega.{arith}
 use lib.ListN.{length}
 use lib.Seq.{length-take-le}
 use borrow.Author.Needs.{needs}
-use Rattle.same.proofs.Entering.{few-words, few-unknowns, laid, as-long, with-values, values-told}
+use Rattle.same.proofs.CheckedTerms.{few-words, few-unknowns, laid, as-long, with-values, values-told}
 use Rattle.same.proofs.values_solve.Statement.{statement}
 use Rattle.same.proofs.values_solve.Tie as tie
 

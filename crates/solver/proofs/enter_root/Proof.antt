@@ -1,62 +1,49 @@
--- `solver::enter_root`: `Starting` says what is noted of the root, and that the search then goes on.
+-- `solver::enter_root`: `RootRun` says what is noted of the root, and that the search then goes on.
 use mathlib.Core.Path.{sym, refl}
 use Prim.Native.Nat.{_+_}
 use native.Mathlib.Omega.{arith}
 use lib.Seq.{length-take-le}
-use Rattle.solver.proofs.Starting.{row-fits, root-notable, root-held, root-space}
+use Rattle.solver.proofs.RootRun.{row-fits, root-notable, root-held, root-space}
 use borrow.Author.Needs.{needs}
 use Rattle.solver.proofs.enter_root.Statement.{statement}
 use Rattle.solver.proofs.enter_root.Tie as tie
 
--- src/lib.rt:38:15
 add-end : tie.Need-add-end
 add-end c = search needs
 
--- src/lib.rt:39:16
 slice-reshare-prefix-note : tie.Need-slice-reshare-prefix-note
 slice-reshare-prefix-note c = omega (arith, row-fits (c .before .before .before .before .pre .1 .suits))
 
--- src/lib.rt:39:16
 slice-aggregate-note : tie.Need-slice-aggregate-note
 slice-aggregate-note c = let start = c .before .before .before .before .before in sym (length-take-le (start .args .limits .size + 8) (start .args .room .now) (omega (arith, row-fits (start .pre .1 .suits))))
 
--- src/lib.rt:39:11
 note-requires : tie.Need-note-requires
 note-requires c κs = root-notable (c .before .before .before .before .before .before .pre .1) refl
 
--- src/lib.rt:40:21
 enum-known-noted : tie.Need-enum-known-noted
 enum-known-noted c = search needs
 
--- src/lib.rt:40:31
 search-on-requires : tie.Need-search-on-requires
 search-on-requires c κs = (c .before .before .before .before .before .before .before .before .before .before .before .before .before .before .pre .0, root-held (c .before .before .before .before .before .before .before .before .before .before .before .before .before .before .pre .1) refl (c .before .before .before .before .before .before .before .note .ensures) (c .before .before .before .noted .given .1))
 
--- src/lib.rt:42:18
 enum-told : tie.Need-enum-told
 enum-told c = search needs
 
--- src/lib.rt:29:1
 same-length : tie.Need-same-length
 same-length c = search needs
 
--- src/lib.rt:29:1
 same-length-2 : tie.Need-same-length-2
 same-length-2 c = search needs
 
--- src/lib.rt:29:1
 returns : tie.Need-returns
 returns c = λ to S. c .before .before .before .before .search-on .ensures to (root-held S refl (c .before .before .before .before .before .before .before .before .before .before .before .before .note .ensures) (c .before .before .before .before .before .before .before .before .noted .given .1))
 
--- src/lib.rt:29:1
 same-length-3 : tie.Need-same-length-3
 same-length-3 c = search needs
 
--- src/lib.rt:29:1
 same-length-4 : tie.Need-same-length-4
 same-length-4 c = search needs
 
--- src/lib.rt:29:1
 returns-2 : tie.Need-returns-2
 returns-2 c = λ to S. root-space S refl (c .before .before .before .before .note .ensures) (c .enum-told .given .1)
 

@@ -1,7 +1,7 @@
 -- `solver::run`: the limits are within their bounds, or refused.
 use mathlib.Core.Path.{sym, _∙_}
 use Rattle.results.specs.Telling.{within-limits, above-limits}
-use Rattle.solver.proofs.Telling.{within-bounds}
+use Rattle.solver.proofs.TestsPassed.{within-bounds}
 use borrow.Author.Needs.{needs}
 use Rattle.solver.proofs.run.Statement.{statement}
 use Rattle.solver.proofs.run.Tie as tie

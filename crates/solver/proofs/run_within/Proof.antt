@@ -1,11 +1,11 @@
--- `solver::run_within`: `Telling` says which refusal comes first, and what a run that is not refused tells.
+-- `solver::run_within`: `TestsPassed` says which refusal comes first, and what a run that is not refused tells.
 use mathlib.Core.Path.{sym, _∙_}
 use native.Mathlib.Omega.{arith}
 use lib.Seq.{length-take-le}
 use Rattle.results.specs.Loans.{needed}
-use Rattle.search_loop.proofs.Standing.{needed-small}
+use Rattle.search_loop.proofs.GoesOn.{needed-small}
 use Rattle.results.specs.Telling.{faulty, small-room}
-use Rattle.solver.proofs.Telling.{fine-run, asking}
+use Rattle.solver.proofs.TestsPassed.{fine-run, asking}
 use borrow.Author.Needs.{needs}
 use Rattle.solver.proofs.run_within.Statement.{statement}
 use Rattle.solver.proofs.run_within.Tie as tie

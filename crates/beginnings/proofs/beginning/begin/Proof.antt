@@ -3,7 +3,7 @@ use borrow.Author.Needs.{needs}
 use native.Mathlib.Omega.{arith}
 use Rattle.numerals.specs.Bytes.{found}
 use mathlib.Core.Path.{_∙_}
-use Rattle.items.proofs.Opening.{begin-unknown, begin-functor, begin-set, begin-none}
+use Rattle.items.proofs.FirstByte.{begin-unknown, begin-functor, begin-set, begin-none}
 use Rattle.beginnings.proofs.beginning.begin.Statement.{statement}
 use Rattle.beginnings.proofs.beginning.begin.Tie as tie
 

@@ -2,7 +2,7 @@
 use borrow.Author.Needs.{needs}
 use native.Mathlib.Omega.{arith}
 use Rattle.numerals.specs.Bytes.{found}
-use Rattle.items.proofs.Opening.{arguments-refused, arguments-open, arguments-deep, arguments-none, arguments-lacking}
+use Rattle.items.proofs.FirstByte.{arguments-refused, arguments-open, arguments-deep, arguments-none, arguments-lacking}
 use Rattle.beginnings.proofs.beginning.open_arguments.Statement.{statement}
 use Rattle.beginnings.proofs.beginning.open_arguments.Tie as tie
 

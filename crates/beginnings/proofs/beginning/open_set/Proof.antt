@@ -3,7 +3,7 @@ use borrow.Author.Needs.{needs}
 use native.Mathlib.Omega.{arith}
 use Rattle.numerals.specs.Bytes.{found}
 use mathlib.Core.Path.{_∙_}
-use Rattle.items.proofs.Opening.{set-empty, set-open, set-deep}
+use Rattle.items.proofs.FirstByte.{set-empty, set-open, set-deep}
 use Rattle.beginnings.proofs.beginning.open_set.Statement.{statement}
 use Rattle.beginnings.proofs.beginning.open_set.Tie as tie
 

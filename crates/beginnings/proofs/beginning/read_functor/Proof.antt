@@ -2,7 +2,7 @@
 use borrow.Author.Needs.{needs}
 use native.Mathlib.Omega.{arith}
 use mathlib.Core.Path.{sym, _∙_}
-use Rattle.beginnings.proofs.Naming.{named-told, functor-read, functor-unfit}
+use Rattle.beginnings.proofs.NameWords.{named-told, functor-read, functor-unfit}
 use Rattle.beginnings.proofs.beginning.read_functor.Statement.{statement}
 use Rattle.beginnings.proofs.beginning.read_functor.Tie as tie
 

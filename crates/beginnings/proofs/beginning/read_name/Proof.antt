@@ -1,6 +1,6 @@
 -- `read_name`: the words are full, the number is refused, or it is tested against the declared ones.
 use borrow.Author.Needs.{needs}
-use Rattle.beginnings.proofs.Naming.{name-full, name-unfit, name-declared, name-undeclared}
+use Rattle.beginnings.proofs.NameWords.{name-full, name-unfit, name-declared, name-undeclared}
 use Rattle.beginnings.proofs.beginning.read_name.Statement.{statement}
 use Rattle.beginnings.proofs.beginning.read_name.Tie as tie
 

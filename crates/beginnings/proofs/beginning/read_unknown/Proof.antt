@@ -1,7 +1,7 @@
 -- `read_unknown`: a declared number is below 256, so that the unknown's word fits.
 use borrow.Author.Needs.{needs}
 use native.Mathlib.Omega.{arith}
-use Rattle.beginnings.proofs.Naming.{named-told, unknown-read, unknown-unfit}
+use Rattle.beginnings.proofs.NameWords.{named-told, unknown-read, unknown-unfit}
 use Rattle.beginnings.proofs.beginning.read_unknown.Statement.{statement}
 use Rattle.beginnings.proofs.beginning.read_unknown.Tie as tie
 

@@ -1,5 +1,5 @@
 use Rattle.rows.specs.Wrote.{wrote-length}
-use Rattle.binding.proofs.Binding.{bindings-parts, value-parts, last-full, last-written}
+use Rattle.binding.proofs.BindingPieces.{bindings-parts, value-parts, last-full, last-written}
 use borrow.Author.Needs.{needs}
 use Rattle.binding.proofs.bind.bind_last.Statement.{statement}
 use Rattle.binding.proofs.bind.bind_last.Tie as tie

@@ -1,4 +1,4 @@
-use Rattle.binding.proofs.Binding.{pending-within, entries-parts, entries-written, pending-full}
+use Rattle.binding.proofs.BindingPieces.{pending-within, entries-parts, entries-written, pending-full}
 use Rattle.rows.specs.Bind.{pending-parts}
 use Rattle.replace.specs.Fitting.{further}
 use Rattle.rows.specs.Wrote.{done-fits, done-length}

@@ -1,4 +1,4 @@
-use Rattle.binding.proofs.Keeping.{keep-seal-parts, keep-sealed, keep-large}
+use Rattle.binding.proofs.RestCopied.{keep-seal-parts, keep-sealed, keep-large}
 use Rattle.binding.proofs.Finishing.{row-sum}
 use Rattle.rows.specs.Finished.{body-part}
 use native.Mathlib.Omega.{arith}

@@ -1,4 +1,4 @@
-use Rattle.binding.proofs.Keeping.{keep-full, front-parts, entry-parts, back-parts, kept-written}
+use Rattle.binding.proofs.RestCopied.{keep-full, front-parts, entry-parts, back-parts, kept-written}
 use borrow.Author.Needs.{needs}
 use Rattle.binding.proofs.keep.keep_rest.Statement.{statement}
 use Rattle.binding.proofs.keep.keep_rest.Tie as tie

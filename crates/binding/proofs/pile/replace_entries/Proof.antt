@@ -1,4 +1,4 @@
-use Rattle.binding.proofs.Passing.{Passing, length-after, same-length as long, none-passed, numbers, all-passed, size-within, entry-parts, entry-skipped, entry-written, entry-full}
+use Rattle.binding.proofs.EntriesRead.{Passing, length-after, same-length as long, none-passed, numbers, all-passed, size-within, entry-parts, entry-skipped, entry-written, entry-full}
 use lib.ListN.{length-take, length-drop}
 use Rattle.room.specs.Room.{seg}
 use native.Mathlib.Omega.{arith}

@@ -1,4 +1,4 @@
-use Rattle.choices.proofs.Meeting.{first-within, second-parts, equation-full, equation-written}
+use Rattle.choices.proofs.EquationsWritten.{first-within, second-parts, equation-full, equation-written}
 use Rattle.replace.specs.Fitting.{further}
 use Rattle.rows.specs.Wrote.{done-fits, done-length}
 use native.Mathlib.Omega.{arith}

@@ -1,5 +1,5 @@
 use borrow.Author.Needs.{needs}
-use Rattle.choices.proofs.Meeting.{Meeting, none-met, numbers, pick-passed, pair-parts, pair-met, pair-full, all-met}
+use Rattle.choices.proofs.EquationsWritten.{Meeting, none-met, numbers, pick-passed, pair-parts, pair-met, pair-full, all-met}
 use Rattle.rows.specs.Wrote.{wrote-length}
 use native.Mathlib.Omega.{arith}
 use mathlib.Core.Path.{_∙_}

@@ -1,4 +1,4 @@
-use Rattle.choices.proofs.Meeting.{side-parts, side-written}
+use Rattle.choices.proofs.EquationsWritten.{side-parts, side-written}
 use borrow.Author.Needs.{needs}
 use Rattle.choices.proofs.equations.side.Statement.{statement}
 use Rattle.choices.proofs.equations.side.Tie as tie

@@ -1,5 +1,5 @@
 use mathlib.Core.Path.{_∙_}
-use Rattle.fields.proofs.Lines.{searched, field-part}
+use Rattle.fields.proofs.FieldLaws.{searched, field-part}
 use borrow.Author.Needs.{needs}
 use Rattle.fields.proofs.line.field.Statement.{statement}
 use Rattle.fields.proofs.line.field.Tie as tie

@@ -4,7 +4,7 @@ use native.Mathlib.Omega.{arith}
 use mathlib.Core.Path.{_≡_, refl, sym, _∙_}
 use lib.ListN.{length, drop}
 use Rattle.fields.specs.Line.{field-of}
-use Rattle.fields.proofs.Lines.{searched, field-first, field-step, field-missing}
+use Rattle.fields.proofs.FieldLaws.{searched, field-first, field-step, field-missing}
 use Rattle.fields.proofs.line.start.Statement.{statement}
 use Rattle.fields.proofs.line.start.Tie as tie
 

@@ -4,7 +4,7 @@ use native.Mathlib.Omega.{arith}
 use mathlib.Core.Path.{_≡_, sym, _∙_}
 use lib.ListN.{length, drop}
 use Rattle.fields.specs.Line.{count}
-use Rattle.fields.proofs.Lines.{count-met, count-passed, count-end}
+use Rattle.fields.proofs.FieldLaws.{count-met, count-passed, count-end}
 use Rattle.fields.proofs.line.tabs.Statement.{statement}
 use Rattle.fields.proofs.line.tabs.Tie as tie
 

@@ -1,5 +1,5 @@
 use mathlib.Core.Path.{sym}
-use Rattle.fields.proofs.Numbers.{below-digits, above-digits, too-large, one-more}
+use Rattle.fields.proofs.DecimalDigits.{below-digits, above-digits, too-large, one-more}
 use borrow.Author.Needs.{needs}
 use Rattle.fields.proofs.number.add_digit.Statement.{statement}
 use Rattle.fields.proofs.number.add_digit.Tie as tie

@@ -4,8 +4,8 @@ use native.Mathlib.Omega.{arith}
 use mathlib.Core.Path.{_≡_, sym, _∙_}
 use lib.ListN.{length, drop}
 use Rattle.fields.specs.declared.number.Number.the-variants.{Value}
-use Rattle.fields.specs.Number.{with-digits, number-of}
-use Rattle.fields.proofs.Numbers.{number-some, number-none, digit-next, digit-none, digits-end}
+use Rattle.fields.specs.DecimalField.{with-digits, number-of}
+use Rattle.fields.proofs.DecimalDigits.{number-some, number-none, digit-next, digit-none, digits-end}
 use Rattle.fields.proofs.number.read_number.Statement.{statement}
 use Rattle.fields.proofs.number.read_number.Tie as tie
 

@@ -2,9 +2,9 @@
 use borrow.Author.Needs.{needs}
 use native.Mathlib.Omega.{arith}
 use mathlib.Core.Path.{_∙_}
-use Rattle.term_reader.specs.Answers.{is-met, is-unmet}
+use Rattle.term_reader.specs.ReadingAnswers.{is-met, is-unmet}
 use Rattle.numerals.specs.Bytes.{found}
-use Rattle.header_reader.proofs.Lines.{arities-unmet, arities-none, arities-some}
+use Rattle.header_reader.proofs.HeaderLines.{arities-unmet, arities-none, arities-some}
 use Rattle.header_reader.proofs.header.read_arities.Statement.{statement}
 use Rattle.header_reader.proofs.header.read_arities.Tie as tie
 

@@ -1,8 +1,8 @@
 -- `read_header`: each answer is that of the first line that was refused, or of all four.
 use borrow.Author.Needs.{needs}
 use native.Mathlib.Omega.{arith}
-use Rattle.term_reader.specs.Answers.{is-value, is-unfit, is-read, is-stopped, read-count}
-use Rattle.header_reader.proofs.Lines.{no-edition, no-unknowns, no-arities, no-equations, headed}
+use Rattle.term_reader.specs.ReadingAnswers.{is-value, is-unfit, is-read, is-stopped, read-count}
+use Rattle.header_reader.proofs.HeaderLines.{no-edition, no-unknowns, no-arities, no-equations, headed}
 use Rattle.header_reader.proofs.header.read_header.Statement.{statement}
 use Rattle.header_reader.proofs.header.read_header.Tie as tie
 

@@ -1,8 +1,8 @@
 -- `read_line`: each answer is that of the first part that was refused, or of all three.
 use borrow.Author.Needs.{needs}
 use mathlib.Core.Path.{sym, _∙_}
-use Rattle.term_reader.specs.Answers.{is-met, is-unmet, is-value, is-unfit}
-use Rattle.header_reader.proofs.Lines.{line-unmet, line-unfit, line-number}
+use Rattle.term_reader.specs.ReadingAnswers.{is-met, is-unmet, is-value, is-unfit}
+use Rattle.header_reader.proofs.HeaderLines.{line-unmet, line-unfit, line-number}
 use Rattle.header_reader.proofs.header.read_line.Statement.{statement}
 use Rattle.header_reader.proofs.header.read_line.Tie as tie
 

@@ -5,11 +5,11 @@ use Prim.Native.Nat.{_-_, _≤_}
 use mathlib.Core.Path.{_≡_, refl, sym, _∙_}
 use mathlib.Core.List.{[]}
 use lib.ListN.{length, take, length-set}
-use Rattle.header_reader.specs.Header.{arity-list}
-use Rattle.term_reader.specs.Answers.{is-value, is-unfit}
+use Rattle.header_reader.specs.HeaderText.{arity-list}
+use Rattle.term_reader.specs.ReadingAnswers.{is-value, is-unfit}
 use Rattle.numerals.specs.Numbers.{between-most}
 use Rattle.numerals.specs.Bytes.{found}
-use Rattle.header_reader.proofs.Lines.{arity-full, arity-unfit, arity-other, arities-turn, arities-last}
+use Rattle.header_reader.proofs.HeaderLines.{arity-full, arity-unfit, arity-other, arities-turn, arities-last}
 use Rattle.header_reader.proofs.header.read_numbers.Statement.{statement}
 use Rattle.header_reader.proofs.header.read_numbers.Tie as tie
 

@@ -1,5 +1,5 @@
 -- `begins_term`: each answer is one case of `begins`.
-use Rattle.items.proofs.Opening.{begins-x, begins-f, begins-last}
+use Rattle.items.proofs.FirstByte.{begins-x, begins-f, begins-last}
 use Rattle.items.proofs.item.begins_term.Statement.{statement}
 use Rattle.items.proofs.item.begins_term.Tie as tie
 

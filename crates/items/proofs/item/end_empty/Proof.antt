@@ -1,7 +1,7 @@
 -- `end_empty`: the empty set's word is stored, or the words are full.
 use borrow.Author.Needs.{needs}
 use native.Mathlib.Omega.{arith}
-use Rattle.items.proofs.Words.{empty-closed, empty-full}
+use Rattle.items.proofs.WordsSoFar.{empty-closed, empty-full}
 use Rattle.items.proofs.item.end_empty.Statement.{statement}
 use Rattle.items.proofs.item.end_empty.Tie as tie
 

@@ -2,7 +2,7 @@
 use borrow.Author.Needs.{needs}
 use native.Mathlib.Omega.{arith}
 use mathlib.Core.Path.{sym, _∙_}
-use Rattle.items.proofs.Words.{member-due, member-full, member-none}
+use Rattle.items.proofs.WordsSoFar.{member-due, member-full, member-none}
 use Rattle.items.proofs.item.open_member.Statement.{statement}
 use Rattle.items.proofs.item.open_member.Tie as tie
 

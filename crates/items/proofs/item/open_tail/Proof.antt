@@ -1,7 +1,7 @@
 -- `open_tail`: by the first byte of the tail.
 use borrow.Author.Needs.{needs}
 use native.Mathlib.Omega.{arith}
-use Rattle.items.proofs.Passing.{tail-refused, tail-due}
+use Rattle.items.proofs.AfterItem.{tail-refused, tail-due}
 use Rattle.items.proofs.item.open_tail.Statement.{statement}
 use Rattle.items.proofs.item.open_tail.Tie as tie
 

@@ -2,7 +2,7 @@
 use borrow.Author.Needs.{needs}
 use native.Mathlib.Omega.{arith}
 use mathlib.Core.Path.{_∙_}
-use Rattle.items.proofs.Passing.{after-a-member, after-a-tail, after-an-argument}
+use Rattle.items.proofs.AfterItem.{after-a-member, after-a-tail, after-an-argument}
 use Rattle.items.proofs.item.pass.Statement.{statement}
 use Rattle.items.proofs.item.pass.Tie as tie
 

@@ -2,7 +2,7 @@
 use borrow.Author.Needs.{needs}
 use native.Mathlib.Omega.{arith}
 use Rattle.numerals.specs.Bytes.{found}
-use Rattle.items.proofs.Passing.{after-argument-many, after-argument-more, after-argument-close, after-argument-few, after-argument-none}
+use Rattle.items.proofs.AfterItem.{after-argument-many, after-argument-more, after-argument-close, after-argument-few, after-argument-none}
 use Rattle.items.proofs.item.pass_argument.Statement.{statement}
 use Rattle.items.proofs.item.pass_argument.Tie as tie
 

@@ -3,7 +3,7 @@ use borrow.Author.Needs.{needs}
 use native.Mathlib.Omega.{arith}
 use Rattle.numerals.specs.Bytes.{found}
 use mathlib.Core.Path.{_∙_}
-use Rattle.items.proofs.Passing.{after-member-more, after-member-tail, after-member-close, after-member-none}
+use Rattle.items.proofs.AfterItem.{after-member-more, after-member-tail, after-member-close, after-member-none}
 use Rattle.items.proofs.item.pass_member.Statement.{statement}
 use Rattle.items.proofs.item.pass_member.Tie as tie
 

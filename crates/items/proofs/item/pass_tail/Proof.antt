@@ -2,7 +2,7 @@
 use borrow.Author.Needs.{needs}
 use native.Mathlib.Omega.{arith}
 use Rattle.numerals.specs.Bytes.{found}
-use Rattle.items.proofs.Passing.{after-tail-close, after-tail-none}
+use Rattle.items.proofs.AfterItem.{after-tail-close, after-tail-none}
 use Rattle.items.proofs.item.pass_tail.Statement.{statement}
 use Rattle.items.proofs.item.pass_tail.Tie as tie
 

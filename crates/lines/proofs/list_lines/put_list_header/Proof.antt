@@ -1,4 +1,4 @@
-use Rattle.lines.specs.Listing.{list-header}
+use Rattle.lines.specs.ListLines.{list-header}
 use Rattle.pen.specs.Writing.{wrote-then}
 use borrow.Author.Needs.{needs}
 use Rattle.lines.proofs.list_lines.put_list_header.Statement.{statement}

@@ -1,5 +1,5 @@
 use borrow.Author.Needs.{needs}
-use Rattle.lines.specs.Listing.{answer-at}
+use Rattle.lines.specs.ListLines.{answer-at}
 use Rattle.lines.proofs.Lined.{numbered, numbered-not}
 use borrow.Author.Needs.{needs}
 use Rattle.lines.proofs.list_lines.write_answer.Statement.{statement}

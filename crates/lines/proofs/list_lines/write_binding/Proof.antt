@@ -1,6 +1,6 @@
 use borrow.Author.Needs.{needs}
 use mathlib.Core.Path.{refl}
-use Rattle.lines.specs.Listing.{binding-at}
+use Rattle.lines.specs.ListLines.{binding-at}
 use Rattle.lines.proofs.Lined.{numbered, numbered-not}
 use borrow.Author.Needs.{needs}
 use Rattle.lines.proofs.list_lines.write_binding.Statement.{statement}

@@ -1,5 +1,5 @@
 use mathlib.Core.Path.{_∙_}
-use Rattle.writer.proofs.Answering.{passed-measured}
+use Rattle.writer.proofs.WrittenAnswer.{passed-measured}
 use borrow.Author.Needs.{needs}
 use Rattle.list_writer.proofs.list.measure_list.Statement.{statement}
 use Rattle.list_writer.proofs.list.measure_list.Tie as tie

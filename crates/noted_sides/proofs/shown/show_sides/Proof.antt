@@ -5,7 +5,7 @@ use mathlib.Core.List.{List, [], _∷_}
 use native.Mathlib.Omega.{arith}
 use lib.ListN.{set}
 use Rattle.room.specs.Room.{put}
-use Rattle.noted_sides.specs.Sides.{numbers-of}
+use Rattle.noted_sides.specs.NotedSides.{numbers-of}
 use borrow.Author.Needs.{needs, below-set}
 use Rattle.noted_sides.proofs.shown.show_sides.Statement.{statement}
 use Rattle.noted_sides.proofs.shown.show_sides.Tie as tie

@@ -5,7 +5,7 @@ use Prim.Native.Nat.{_-_, _≤_}
 use mathlib.Core.Path.{_≡_, refl, sym, _∙_}
 use lib.ListN.{length, drop}
 use Rattle.numerals.specs.Bytes.{met, in-text}
-use Rattle.numerals.proofs.Meeting.{met-all, met-same, met-other}
+use Rattle.numerals.proofs.KeyTurns.{met-all, met-same, met-other}
 use Rattle.numerals.proofs.bytes.meet.Statement.{statement}
 use Rattle.numerals.proofs.bytes.meet.Tie as tie
 

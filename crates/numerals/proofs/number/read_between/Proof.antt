@@ -1,7 +1,7 @@
 -- `read_between`: the number as it was read, tested against both limits.
 use borrow.Author.Needs.{needs}
 use mathlib.Core.Path.{sym}
-use Rattle.numerals.proofs.Digits.{between-refused, between-below, between-above, between-read}
+use Rattle.numerals.proofs.DigitTests.{between-refused, between-below, between-above, between-read}
 use Rattle.numerals.proofs.number.read_between.Statement.{statement}
 use Rattle.numerals.proofs.number.read_between.Tie as tie
 

@@ -4,7 +4,7 @@ use native.Mathlib.Omega.{arith}
 use Prim.Native.Nat.{_<_}
 use mathlib.Core.Path.{_≡_, refl, sym, ap, _∙_}
 use Rattle.numerals.specs.Numbers.{digit, digits}
-use Rattle.numerals.proofs.Digits.{digit-there, digits-end, digits-full, digits-more, room, room-less, room-most}
+use Rattle.numerals.proofs.DigitTests.{digit-there, digits-end, digits-full, digits-more, room, room-less, room-most}
 use Rattle.numerals.proofs.number.read_digits.Statement.{statement}
 use Rattle.numerals.proofs.number.read_digits.Tie as tie
 

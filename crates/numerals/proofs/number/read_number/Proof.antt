@@ -3,7 +3,7 @@ use borrow.Author.Needs.{needs}
 use native.Mathlib.Omega.{arith}
 use mathlib.Core.Path.{sym, ap, _∙_}
 use Rattle.numerals.specs.Numbers.{digit}
-use Rattle.numerals.proofs.Digits.{digit-there, number-none, number-led, number-zero, number-more}
+use Rattle.numerals.proofs.DigitTests.{digit-there, number-none, number-led, number-zero, number-more}
 use Rattle.numerals.proofs.number.read_number.Statement.{statement}
 use Rattle.numerals.proofs.number.read_number.Tie as tie
 

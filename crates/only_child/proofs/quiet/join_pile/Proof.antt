@@ -1,6 +1,6 @@
--- `children::quiet::join_pile`: the laws of `Joining`, one at each place where it returns.
+-- `children::quiet::join_pile`: the laws of `JoinAsked`, one at each place where it returns.
 use native.Mathlib.Omega.{arith}
-use Rattle.only_child.proofs.Joining.{answer-told, quiet-parts, join-passed, join-due, join-asked, join-told}
+use Rattle.only_child.proofs.JoinAsked.{answer-told, quiet-parts, join-passed, join-due, join-asked, join-told}
 use borrow.Author.Needs.{needs}
 use Rattle.only_child.proofs.quiet.join_pile.Statement.{statement}
 use Rattle.only_child.proofs.quiet.join_pile.Tie as tie

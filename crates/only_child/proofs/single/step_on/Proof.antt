@@ -1,6 +1,6 @@
--- `children::single::step_on`: the laws of `Stepping`, one at each place where it returns.
+-- `children::single::step_on`: the laws of `StepAsked`, one at each place where it returns.
 use native.Mathlib.Omega.{arith}
-use Rattle.only_child.proofs.Stepping.{step-passed, step-due, right-within, first-within, step-asked, step-told}
+use Rattle.only_child.proofs.StepAsked.{step-passed, step-due, right-within, first-within, step-asked, step-told}
 use borrow.Author.Needs.{needs}
 use Rattle.only_child.proofs.single.step_on.Statement.{statement}
 use Rattle.only_child.proofs.single.step_on.Tie as tie

@@ -1,7 +1,7 @@
--- `children::pick::pick`: the laws of `Starting`.
+-- `children::pick::pick`: the laws of `StartedSplit`.
 use native.Mathlib.Omega.{arith}
-use Rattle.openings.proofs.Splitting.{open-there}
-use Rattle.openings.proofs.Starting.{members-few, number-parts, digit-parts, here, told-past, told-from}
+use Rattle.openings.proofs.SplitSides.{open-there}
+use Rattle.openings.proofs.StartedSplit.{members-few, number-parts, digit-parts, here, told-past, told-from}
 use borrow.Author.Needs.{needs}
 use Rattle.openings.proofs.pick.pick.Statement.{statement}
 use Rattle.openings.proofs.pick.pick.Tie as tie

@@ -1,11 +1,11 @@
--- `children::pass::pick_after`: the laws of `Passing`. What was passed before the loop stays passed in it.
+-- `children::pass::pick_after`: the laws of `PassedDead`. What was passed before the loop stays passed in it.
 use Prim.Native.Nat.{ℕ, _-_}
 use mathlib.Core.List.{List}
 use native.Mathlib.Omega.{arith}
 use borrow.Author.Tests.{not-true, not-false}
 use borrow.Author.Needs.{needs}
-use Rattle.choices.specs.Opened.{Parent}
-use Rattle.pick_loop.proofs.Passing.{Passed, child-parts, elsewhere, made-dead, dead-parts, told-due, told-node, told-spent, passed-again, first-parts, first-spent, first-passed, not-dead}
+use Rattle.choices.specs.OpenParent.{Parent}
+use Rattle.pick_loop.proofs.PassedDead.{Passed, child-parts, elsewhere, made-dead, dead-parts, told-due, told-node, told-spent, passed-again, first-parts, first-spent, first-passed, not-dead}
 use Rattle.pick_loop.proofs.Repicking.{numbers}
 use Rattle.pick_loop.proofs.pass.pick_after.Statement.{statement}
 use Rattle.pick_loop.proofs.pass.pick_after.Tie as tie

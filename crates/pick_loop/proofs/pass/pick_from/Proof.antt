@@ -1,6 +1,6 @@
--- `children::pass::pick_from`: the laws of a first child in `Passing`.
+-- `children::pass::pick_from`: the laws of a first child in `PassedDead`.
 use native.Mathlib.Omega.{arith}
-use Rattle.pick_loop.proofs.Passing.{first-due, first-asked, first-node, first-ended, first-told, not-dead}
+use Rattle.pick_loop.proofs.PassedDead.{first-due, first-asked, first-node, first-ended, first-told, not-dead}
 use borrow.Author.Needs.{needs}
 use Rattle.pick_loop.proofs.pass.pick_from.Statement.{statement}
 use Rattle.pick_loop.proofs.pass.pick_from.Tie as tie

@@ -4,7 +4,7 @@ use native.Mathlib.Omega.{arith}
 use lib.ListN.{length, getD, length-set}
 use borrow.Author.Needs.{needs}
 use Rattle.places.specs.Classes.{relabel}
-use Rattle.places.proofs.Writing.{Written, written-none, written-more, all-relabelled}
+use Rattle.places.proofs.LabelsWritten.{Written, written-none, written-more, all-relabelled}
 use Rattle.places.proofs.classes.join.Statement.{statement}
 use Rattle.places.proofs.classes.join.Tie as tie
 

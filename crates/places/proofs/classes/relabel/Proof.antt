@@ -1,5 +1,5 @@
 use mathlib.Core.Path.{sym}
-use Rattle.places.proofs.Writing.{relabel-yes, relabel-no}
+use Rattle.places.proofs.LabelsWritten.{relabel-yes, relabel-no}
 use Rattle.places.proofs.classes.relabel.Statement.{statement}
 use Rattle.places.proofs.classes.relabel.Tie as tie
 

@@ -1,4 +1,4 @@
-use Rattle.plain_steps.specs.Only.{drop-arm-parts, drop-arm, bind-arm-parts, bind-arm, postpone-arm-parts, postpone-arm, decompose-arm-parts, decompose-arm, sides-positive, dead-arm}
+use Rattle.plain_steps.specs.OnlyStep.{drop-arm-parts, drop-arm, bind-arm-parts, bind-arm, postpone-arm-parts, postpone-arm, decompose-arm-parts, decompose-arm, sides-positive, dead-arm}
 use Rattle.rows.specs.Row.{beside-same, finished-beside}
 use Rattle.plain_steps.specs.Singles.{postpone-beside}
 use Rattle.plain_steps.specs.Decomposed.{decompose-beside}

@@ -2,8 +2,8 @@
 use borrow.Author.Needs.{needs}
 use native.Mathlib.Omega.{arith}
 use mathlib.Core.Path.{_∙_}
-use Rattle.term_reader.specs.Answers.{is-read, is-stopped, read-count}
-use Rattle.question_reader.proofs.Sides.{left-refused, left-read, left-ends}
+use Rattle.term_reader.specs.ReadingAnswers.{is-read, is-stopped, read-count}
+use Rattle.question_reader.proofs.EquationSides.{left-refused, left-read, left-ends}
 use Rattle.question_reader.proofs.whole.read_equation.Statement.{statement}
 use Rattle.question_reader.proofs.whole.read_equation.Tie as tie
 

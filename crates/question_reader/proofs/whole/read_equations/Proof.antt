@@ -7,8 +7,8 @@ use mathlib.Core.List.{[]}
 use lib.ListN.{length, take}
 use Rattle.terms.specs.Bounds.{edition-one}
 use Rattle.question_reader.specs.Questions.{equations}
-use Rattle.term_reader.specs.Answers.{is-read, is-stopped, read-count}
-use Rattle.question_reader.proofs.Sides.{equations-more, equations-stop, equations-end, equations-left, equation-ends}
+use Rattle.term_reader.specs.ReadingAnswers.{is-read, is-stopped, read-count}
+use Rattle.question_reader.proofs.EquationSides.{equations-more, equations-stop, equations-end, equations-left, equation-ends}
 use Rattle.question_reader.proofs.whole.read_equations.Statement.{statement}
 use Rattle.question_reader.proofs.whole.read_equations.Tie as tie
 

@@ -3,9 +3,9 @@ use borrow.Author.Needs.{needs}
 use native.Mathlib.Omega.{arith}
 use mathlib.Core.Path.{sym, _∙_}
 use lib.ListN.{take}
-use Rattle.term_reader.specs.Answers.{is-met, is-unmet, read-count}
-use Rattle.term_reader.specs.Answers.{term-is-read, term-is-refused}
-use Rattle.question_reader.proofs.Sides.{key-ends, side-unmet, side-refused, side-term}
+use Rattle.term_reader.specs.ReadingAnswers.{is-met, is-unmet, read-count}
+use Rattle.term_reader.specs.ReadingAnswers.{term-is-read, term-is-refused}
+use Rattle.question_reader.proofs.EquationSides.{key-ends, side-unmet, side-refused, side-term}
 use Rattle.question_reader.proofs.whole.read_side.Statement.{statement}
 use Rattle.question_reader.proofs.whole.read_side.Tie as tie
 

@@ -3,9 +3,9 @@ use borrow.Author.Needs.{needs}
 use native.Mathlib.Omega.{arith}
 use mathlib.Core.Path.{sym}
 use lib.Seq.{length-take-le}
-use Rattle.term_reader.specs.Answers.{is-read, is-stopped, read-count}
+use Rattle.term_reader.specs.ReadingAnswers.{is-read, is-stopped, read-count}
 use Rattle.header_reader.proofs.Headings.{is-headed, is-unheaded, heading-count}
-use Rattle.question_reader.proofs.Sides.{header-ends, unheaded, unsided, whole-asked}
+use Rattle.question_reader.proofs.EquationSides.{header-ends, unheaded, unsided, whole-asked}
 use Rattle.question_reader.proofs.whole.read_whole.Statement.{statement}
 use Rattle.question_reader.proofs.whole.read_whole.Tie as tie
 

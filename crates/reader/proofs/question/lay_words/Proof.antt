@@ -5,7 +5,7 @@ use Prim.Native.Nat.{_+_, _-_, _≤_}
 use mathlib.Core.Path.{_≡_, refl}
 use mathlib.Core.List.{_++_}
 use lib.ListN.{length, take, drop, length-set}
-use Rattle.reader.proofs.Laying.{lay-turn, lay-end}
+use Rattle.reader.proofs.BufferFilled.{lay-turn, lay-end}
 use Rattle.reader.proofs.question.lay_words.Statement.{statement}
 use Rattle.reader.proofs.question.lay_words.Tie as tie
 

@@ -1,4 +1,4 @@
-use Rattle.tails.proofs.Opening.{numbers}
+use Rattle.tails.proofs.OpenSplit.{numbers}
 use Rattle.splits.proofs.Sharing.{u-parts, t-parts, both-laid}
 use native.Mathlib.Omega.{arith}
 use borrow.Author.Needs.{needs}

@@ -1,5 +1,5 @@
-use Rattle.splits.proofs.Renewing.{share-elsewhere, renew-large, renew-parts, renew-made}
-use Rattle.choices.specs.Opened.{elsewhere-next}
+use Rattle.splits.proofs.BothBound.{share-elsewhere, renew-large, renew-parts, renew-made}
+use Rattle.choices.specs.OpenParent.{elsewhere-next}
 use borrow.Author.Needs.{needs}
 use Rattle.splits.proofs.different.renew.Statement.{statement}
 use Rattle.splits.proofs.different.renew.Tie as tie

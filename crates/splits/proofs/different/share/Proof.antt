@@ -1,4 +1,4 @@
-use Rattle.splits.proofs.Values.{first-long, share-long, value-parts, values-shared}
+use Rattle.splits.proofs.SharedValues.{first-long, share-long, value-parts, values-shared}
 use native.Mathlib.Omega.{arith}
 use borrow.Author.Needs.{needs}
 use Rattle.splits.proofs.different.share.Statement.{statement}

@@ -1,5 +1,5 @@
-use Rattle.tails.proofs.Opening.{numbers}
-use Rattle.splits.proofs.Entering.{t-parts, k-within, u-parts, j-within, long, no-entry, one-entry}
+use Rattle.tails.proofs.OpenSplit.{numbers}
+use Rattle.splits.proofs.SameTail.{t-parts, k-within, u-parts, j-within, long, no-entry, one-entry}
 use native.Mathlib.Omega.{arith}
 use mathlib.Core.Path.{refl}
 use borrow.Author.Needs.{needs}

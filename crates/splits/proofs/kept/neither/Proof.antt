@@ -1,5 +1,5 @@
-use Rattle.tails.proofs.Opening.{numbers}
-use Rattle.splits.proofs.Keeping.{s-place, s-apart, plain-parts, plain, written-within, tails-parts, last-written, news-full, last-full, neither-parts, neither-made}
+use Rattle.tails.proofs.OpenSplit.{numbers}
+use Rattle.splits.proofs.NothingBound.{s-place, s-apart, plain-parts, plain, written-within, tails-parts, last-written, news-full, last-full, neither-parts, neither-made}
 use Rattle.tails.proofs.Making.{child-made}
 use Rattle.replace.specs.Fitting.{further}
 use Rattle.rows.specs.Wrote.{done-fits, done-length}

@@ -1,8 +1,8 @@
-use Rattle.tails.proofs.Opening.{numbers}
-use Rattle.splits.proofs.Keeping.{s-place, s-apart, plain-parts, plain, keep-parts}
-use Rattle.splits.proofs.Entering.{due-laid, entry-within, entry-apart, same-full, same-made}
+use Rattle.tails.proofs.OpenSplit.{numbers}
+use Rattle.splits.proofs.NothingBound.{s-place, s-apart, plain-parts, plain, keep-parts}
+use Rattle.splits.proofs.SameTail.{due-laid, entry-within, entry-apart, same-full, same-made}
 use Rattle.tails.proofs.Making.{child-made}
-use Rattle.choices.specs.Opened.{news}
+use Rattle.choices.specs.OpenParent.{news}
 use native.Mathlib.Omega.{arith}
 use mathlib.Core.Path.{refl}
 use borrow.Author.Needs.{needs}

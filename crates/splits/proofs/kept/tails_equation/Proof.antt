@@ -1,4 +1,4 @@
-use Rattle.splits.proofs.Keeping.{tails-full, s-parts, r-parts, tails-written}
+use Rattle.splits.proofs.NothingBound.{tails-full, s-parts, r-parts, tails-written}
 use borrow.Author.Needs.{needs}
 use Rattle.splits.proofs.kept.tails_equation.Statement.{statement}
 use Rattle.splits.proofs.kept.tails_equation.Tie as tie

@@ -1,5 +1,5 @@
 use Rattle.tails.proofs.Bounding.{tail-dead, tail-bound}
-use Rattle.choices.specs.Opened.{elsewhere-same}
+use Rattle.choices.specs.OpenParent.{elsewhere-same}
 use Rattle.room.specs.Room.{seg}
 use borrow.Author.Needs.{needs}
 use Rattle.tails.proofs.bound.bind_tail.Statement.{statement}

@@ -1,4 +1,4 @@
-use Rattle.tails.proofs.Laying.{tail-parts, value-length, value-short, value-put}
+use Rattle.tails.proofs.ValueLaid.{tail-parts, value-length, value-short, value-put}
 use borrow.Author.Needs.{needs}
 use Rattle.tails.proofs.tail.lay_value.Statement.{statement}
 use Rattle.tails.proofs.tail.lay_value.Tie as tie

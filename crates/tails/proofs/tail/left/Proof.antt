@@ -1,4 +1,4 @@
-use Rattle.tails.proofs.Opening.{numbers}
+use Rattle.tails.proofs.OpenSplit.{numbers}
 use Rattle.tails.proofs.Tailing.{left-value-parts, left-bound-parts, left-made, tail-kept}
 use native.Mathlib.Omega.{arith}
 use mathlib.Core.Path.{refl}

@@ -1,4 +1,4 @@
-use Rattle.tails.proofs.Opening.{numbers}
+use Rattle.tails.proofs.OpenSplit.{numbers}
 use Rattle.tails.proofs.Tailing.{right-value-parts, right-bound-parts, right-made, tail-kept}
 use native.Mathlib.Omega.{arith}
 use mathlib.Core.Path.{refl}

@@ -1,5 +1,5 @@
 use borrow.Author.Needs.{needs}
-use Rattle.tails.proofs.Joining.{Joining, none-joined, numbers, rising, copy-parts, member-skipped, member-joined, all-joined, all-put}
+use Rattle.tails.proofs.JoiningMembers.{Joining, none-joined, numbers, rising, copy-parts, member-skipped, member-joined, all-joined, all-put}
 use native.Mathlib.Omega.{arith}
 use Prim.Native.Nat.{_-_}
 use Rattle.tails.proofs.tails.tail_members.Statement.{statement}

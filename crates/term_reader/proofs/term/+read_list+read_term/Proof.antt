@@ -8,7 +8,7 @@ use borrow.Author.Needs.{needs}
 use lib.ListN.{length, take}
 use Rattle.term_reader.specs.declared.term.Got.{Got}
 use Rattle.term_reader.specs.declared.term.Got.the-variants.{Read, Refused}
-use Rattle.term_reader.specs.Answers.{is-due, is-done, is-refused, term-is-read, term-is-refused, read-count, due-count, done-count}
+use Rattle.term_reader.specs.ReadingAnswers.{is-due, is-done, is-refused, term-is-read, term-is-refused, read-count, due-count, done-count}
 use Rattle.term_reader.proofs.Nested.{List-read, begun-due, term-list, term-done, term-refused, next-ahead, list-more, list-done, list-refused, list-stopped}
 use Prim.Native.Nat.{ℕ, _<_}
 use borrow.Fn.Kinds.{In}

@@ -2,7 +2,7 @@ use Prim.Native.Nat.{_-_}
 use borrow.Author.Needs.{needs}
 use mathlib.Core.Path.{refl, sym, _∙_}
 use lib.ListN.{length}
-use Rattle.term_writer.proofs.Walks.{Left, all-left, left-none, left-deep, left-ended, left-more}
+use Rattle.term_writer.proofs.TermWalk.{Left, all-left, left-none, left-deep, left-ended, left-more}
 use Rattle.term_writer.proofs.term.write_term.Statement.{statement}
 use Rattle.term_writer.proofs.term.write_term.Tie as tie
 

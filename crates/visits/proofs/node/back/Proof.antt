@@ -1,6 +1,6 @@
 -- `solver::node::back`: the test for the root's row is the definition's.
 use borrow.Author.Tests.{eq-eqb, ne-eqb}
-use Rattle.visits.specs.Visiting.{back-to}
+use Rattle.visits.specs.DueNode.{back-to}
 use borrow.Author.Needs.{needs}
 use Rattle.visits.proofs.node.back.Statement.{statement}
 use Rattle.visits.proofs.node.back.Tie as tie

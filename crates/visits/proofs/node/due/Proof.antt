@@ -1,7 +1,7 @@
 -- `solver::node::due`: the test for spent steps is the definition's.
 use native.Mathlib.Omega.{arith}
 use borrow.Author.Tests.{le-leb, lt-leb}
-use Rattle.visits.specs.Visiting.{due-ending}
+use Rattle.visits.specs.DueNode.{due-ending}
 use Rattle.visits.proofs.node.due.Statement.{statement}
 use Rattle.visits.proofs.node.due.Tie as tie
 

@@ -1,9 +1,9 @@
--- `solver::node::enter`: the number written leaves the child's row as it was, and `Opening` says what is noted of it.
+-- `solver::node::enter`: the number written leaves the child's row as it was, and `OpenedChild` says what is noted of it.
 use mathlib.Core.Path.{refl, ap, _∙_}
 use native.Mathlib.Omega.{arith}
 use lib.ListN.{length}
 use Rattle.room.specs.Room.{length-put}
-use Rattle.visits.proofs.Opening.{place-small, note-asks, opened-held, opened-space}
+use Rattle.visits.proofs.OpenedChild.{place-small, note-asks, opened-held, opened-space}
 use borrow.Author.Needs.{needs}
 use Rattle.visits.proofs.node.enter.Statement.{statement}
 use Rattle.visits.proofs.node.enter.Tie as tie

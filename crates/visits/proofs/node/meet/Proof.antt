@@ -1,6 +1,6 @@
 -- `solver::node::meet`: each case is the definition's; a child that is live is entered.
 use mathlib.Core.Path.{refl}
-use Rattle.visits.specs.Visiting.{node-turn, node-room, node-answers}
+use Rattle.visits.specs.DueNode.{node-turn, node-room, node-answers}
 use borrow.Author.Needs.{needs}
 use Rattle.visits.proofs.node.meet.Statement.{statement}
 use Rattle.visits.proofs.node.meet.Tie as tie

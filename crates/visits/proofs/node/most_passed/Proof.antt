@@ -1,6 +1,6 @@
 -- `solver::node::most_passed`: the test of the depth is the definition's.
 use borrow.Author.Tests.{le-leb, lt-leb}
-use Rattle.visits.specs.Visiting.{most-of}
+use Rattle.visits.specs.DueNode.{most-of}
 use borrow.Author.Needs.{needs}
 use Rattle.visits.proofs.node.most_passed.Statement.{statement}
 use Rattle.visits.proofs.node.most_passed.Tie as tie

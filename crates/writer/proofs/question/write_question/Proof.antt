@@ -1,5 +1,5 @@
 use mathlib.Core.Path.{sym, _∙_}
-use Rattle.writer.proofs.Answering.{refused-unchecked, refused-measured, written-measured}
+use Rattle.writer.proofs.WrittenAnswer.{refused-unchecked, refused-measured, written-measured}
 use borrow.Author.Needs.{needs}
 use Rattle.writer.proofs.question.write_question.Statement.{statement}
 use Rattle.writer.proofs.question.write_question.Tie as tie

@@ -1,4 +1,4 @@
-use Rattle.writer.proofs.Answering.{answered-short, answered-long, answered-deep}
+use Rattle.writer.proofs.WrittenAnswer.{answered-short, answered-long, answered-deep}
 use borrow.Author.Needs.{needs}
 use Rattle.writer.proofs.written.answer.Statement.{statement}
 use Rattle.writer.proofs.written.answer.Tie as tie

@@ -1,0 +1,68 @@
+-- What becomes of a node that is due, in numbers and words: how many dead ends may be passed before it, where the search goes on, what is counted and noted.
+use Prim.Native.Nat.{ℕ, _+_, _*_, _-_, _≤_}
+use mathlib.Core.Bool.{cond}
+use mathlib.Core.List.{List}
+use lib.Dec.{eqb, leb}
+use lib.ListN.{length}
+use Rattle.room.specs.Room.{seg, put}
+use Rattle.search.specs.declared.ends.End.the-variants.{Done, Steps, Depth, Names, Size, Space}
+use Rattle.search.specs.declared.limits.Limits.{Limits}
+use Rattle.rows.specs.declared.parts.Made.{Made}
+use Rattle.rows.specs.declared.parts.Made.the-variants.{Dead, Names as ManyNames, Large, Live}
+use Rattle.results.specs.declared.ran.Record.{Record}
+use Rattle.record.specs.declared.Noted.{Noted}
+use Rattle.record.specs.declared.Noted.the-variants.{Held, Space as NoSpace}
+use Rattle.record.specs.Counts.{counted, answer-in, note-by, held-by, Notable}
+use Rattle.results.specs.declared.ran.Ending.{Ending}
+use Rattle.visits.specs.declared.node.Turn.{Turn}
+use Rattle.visits.specs.declared.node.Turn.the-variants.{At, End}
+use Rattle.visits.specs.ChildNumber.{number-words}
+
+-- how many dead ends may be passed: none below the lent depth
+unfoldable pub most-of : Limits → ℕ → Record → ℕ
+most-of limits level r = cond (leb (limits .depth) level) 0 (limits .steps - r .visited)
+
+unfoldable pub back-to : ℕ → Record → Turn
+back-to level r = cond (eqb level 0) (End (record { end = Done; counts = r })) (At (level - 1) r)
+
+unfoldable pub due-ending : Limits → Record → Ending
+due-ending limits r = cond (leb (limits .steps) (r .visited)) (record { end = Steps; counts = r }) (record { end = Depth; counts = r })
+
+unfoldable pub noted-turn : ℕ → Record → Noted → Turn
+noted-turn level r (Held more) = At (level + 1) more
+noted-turn level r NoSpace = End (record { end = Space; counts = r })
+
+abbrev pub child-place : Limits → ℕ → ℕ
+child-place limits level = level * (limits .size + 8) + (limits .size + 8)
+
+-- the words of the child's row
+abbrev pub child-row : Limits → ℕ → List ℕ → List ℕ
+child-row limits level l = seg l (child-place limits level) (limits .size + 8)
+
+-- what becomes of a node: the turn, the room with the number of the child after it, and the answer words
+unfoldable pub node-turn : Limits → ℕ → List ℕ → (space : ℕ) → Record → Made → Turn
+node-turn limits level l space r Dead = End (record { end = Done; counts = r })
+node-turn limits level l space r ManyNames = End (record { end = Names; counts = r })
+node-turn limits level l space r Large = End (record { end = Size; counts = r })
+node-turn limits level l space r Live = noted-turn level (counted r 1) (note-by (answer-in (child-row limits level l)) space (counted r 1))
+
+unfoldable pub node-room : Limits → ℕ → List ℕ → ℕ → Made → List ℕ
+node-room limits level l number Dead = l
+node-room limits level l number ManyNames = l
+node-room limits level l number Large = l
+node-room limits level l number Live = put l (level * (limits .size + 8) + 5) (number-words (number + 1))
+
+unfoldable pub node-answers : Limits → ℕ → List ℕ → List ℕ → Record → Made → List ℕ
+node-answers limits level l a r Dead = a
+node-answers limits level l a r ManyNames = a
+node-answers limits level l a r Large = a
+node-answers limits level l a r Live = held-by (answer-in (child-row limits level l)) a (counted r 1)
+
+-- where a child is opened
+pub record OpenParts (limits : Limits) (level : ℕ) (l a : List ℕ) (r : Record) (number : ℕ) : Type 0 where
+  pub level-small : level ≤ 1024
+  pub size-small : limits .size ≤ 8192
+  pub visited : r .visited ≤ 1000000000
+  pub number-small : number ≤ 1000000000
+  pub within : child-place limits level + (limits .size + 8) ≤ length l
+  pub notable : Notable (child-row limits level l) a (counted r 1)
