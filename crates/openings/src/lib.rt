@@ -3,4 +3,4 @@
 //
 // In specs/, `SplitRow` is what is asked of a row whose first equation is a split. Crate `noted_sides` keeps the sides.
 
-pub mod pick;
+pub mod open_split;

@@ -1,7 +1,7 @@
 // The only child of a state whose first equation leaves no choice.
 ghost use Rattle.plain_steps.specs.OnlyStep.{StepAt, Taken};
-use crate::single::decompose;
-use crate::single::postpone;
+use crate::first_equation::decompose;
+use crate::first_equation::postpone;
 use binding::bind::finish;
 use binding::keep::keep;
 use rows::first::Subject;

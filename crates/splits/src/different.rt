@@ -15,8 +15,8 @@ use rows::header::HEADER;
 use rows::parts::Made;
 use rows::parts::Rest;
 use rows::walk::is_in;
-use tails::bound::bound;
-use tails::tails::tail_members;
+use tails::bound_tail::bound;
+use tails::joined_members::tail_members;
 use terms::bounds::FIRST_UNKNOWN;
 use terms::bounds::PATH_UNKNOWNS;
 

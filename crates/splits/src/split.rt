@@ -1,14 +1,14 @@
 // A child of a split, by the kind of its two tails.
 ghost use Rattle.tails.specs.Due.{ChildParts, ChildMade};
 use crate::different::different;
-use crate::kept::neither;
-use crate::kept::same;
+use crate::nothing_bound::neither;
+use crate::nothing_bound::same;
 use choices::sides::Sides;
 use rows::parts::Made;
 use rows::parts::Rest;
 use search::steps::Tails;
-use tails::tail::left;
-use tails::tail::right;
+use tails::one_tail::left;
+use tails::one_tail::right;
 
 // Makes the child whose picks stand in scratch, in the row at `to`.
 pub fn split(

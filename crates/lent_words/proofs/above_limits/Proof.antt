@@ -1,4 +1,4 @@
--- `terms::check::above_limits` meets its contract. The loop's invariant: some arity is above its limit exactly if one from k on is.
+-- `lent_words::above_limits` meets its contract. The loop's invariant: some arity is above its limit exactly if one from k on is.
 use Prim.Native.Nat.{_-_, _≤_}
 use mathlib.Core.Path.{_≡_, sym, _∙_}
 use lib.Dec.{ltb}

@@ -1,4 +1,4 @@
--- `terms::check::check_question` meets its contract: the three tests of counts are the parts of `counts-above`.
+-- `lent_words::check_question` meets its contract: the three tests of counts are the parts of `counts-above`.
 use mathlib.Core.Path.{sym, _∙_}
 use borrow.Author.Tests.{lt-ltb, le-ltb}
 use Rattle.terms.specs.Bounds.{edition-one}

@@ -1,4 +1,4 @@
--- `terms::check::check_terms` meets its contract: the test of the length decides between the two cases of `check-terms`.
+-- `lent_words::check_terms` meets its contract: the test of the length decides between the two cases of `check-terms`.
 use mathlib.Core.Path.{_∙_}
 use borrow.Author.Tests.{lt-ltb, le-ltb}
 use Rattle.terms.specs.Bounds.{edition-one}

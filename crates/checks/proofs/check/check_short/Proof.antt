@@ -1,4 +1,4 @@
--- `terms::check::check_short` meets its contract. The loop's invariant: the fault of the words from the start is that of the words from the place on.
+-- `checks::check::check_short` meets its contract. The loop's invariant: the fault of the words from the start is that of the words from the place on.
 -- The measure is what is left of the words.
 use Prim.Native.Nat.{_-_, _≤_}
 use mathlib.Core.Path.{_≡_, refl, sym, _∙_}

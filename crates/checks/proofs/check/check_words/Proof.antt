@@ -1,4 +1,4 @@
--- `terms::check::check_words` meets its contract. The loop's invariant: the check of all words is that of the words from the place on, with what is due there.
+-- `checks::check::check_words` meets its contract. The loop's invariant: the check of all words is that of the words from the place on, with what is due there.
 -- The measure is what is left of the words. The counter of terms stays below the length, or `check_short` takes over.
 use Prim.Native.Nat.{_-_, _≤_}
 use mathlib.Core.Path.{_≡_, refl, sym, _∙_}

@@ -1,4 +1,4 @@
--- `terms::check::what_follows` meets its contract: at each `return` the tests that led there say which kind the word has.
+-- `checks::check::what_follows` meets its contract: at each `return` the tests that led there say which kind the word has.
 use mathlib.Core.Path.{sym, ap, _∙_}
 use borrow.Author.Needs.{needs}
 use borrow.Author.Tests.{lt-ltb, le-ltb}

@@ -1,4 +1,4 @@
--- `same::spread::spreads_little`: the total stays below what a number holds.
+-- `holding::spread::spreads_little`: the total stays below what a number holds.
 use Prim.Native.Nat.{_-_, _≤_}
 use lib.ListN.{length}
 use borrow.Author.Needs.{needs}

@@ -1,4 +1,4 @@
--- `children::shown::show_sides`: three words put one after the other.
+-- `noted_sides::shown::show_sides`: three words put one after the other.
 use Prim.Native.Nat.{ℕ, suc, _+_}
 use mathlib.Core.Path.{_≡_}
 use mathlib.Core.List.{List, [], _∷_}

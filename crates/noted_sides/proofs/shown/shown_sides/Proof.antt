@@ -1,4 +1,4 @@
--- `children::shown::shown_sides`: each number is the word that is read.
+-- `noted_sides::shown::shown_sides`: each number is the word that is read.
 use Rattle.noted_sides.specs.NotedSides.{sides-in}
 use borrow.Author.Needs.{needs}
 use Rattle.noted_sides.proofs.shown.shown_sides.Statement.{statement}

@@ -1,4 +1,4 @@
--- `children::next::told_of`: each case is the definition's.
+-- `only_child::next::told_of`: each case is the definition's.
 use Rattle.only_child.specs.Next.{next-made}
 use borrow.Author.Needs.{needs}
 use Rattle.only_child.proofs.next.told_of.Statement.{statement}

@@ -1,4 +1,4 @@
--- `children::quiet::join_pile`: the laws of `JoinAsked`, one at each place where it returns.
+-- `only_child::quiet::join_pile`: the laws of `JoinAsked`, one at each place where it returns.
 use native.Mathlib.Omega.{arith}
 use Rattle.only_child.proofs.JoinAsked.{answer-told, quiet-parts, join-passed, join-due, join-asked, join-told}
 use borrow.Author.Needs.{needs}

@@ -1,4 +1,4 @@
--- `children::pass::pick_after`: the laws of `PassedDead`. What was passed before the loop stays passed in it.
+-- `pick_loop::pass::pick_after`: the laws of `PassedDead`. What was passed before the loop stays passed in it.
 use Prim.Native.Nat.{ℕ, _-_}
 use mathlib.Core.List.{List}
 use native.Mathlib.Omega.{arith}

@@ -1,4 +1,4 @@
--- `children::pass::pick_from`: the laws of a first child in `PassedDead`.
+-- `pick_loop::pass::pick_from`: the laws of a first child in `PassedDead`.
 use native.Mathlib.Omega.{arith}
 use Rattle.pick_loop.proofs.PassedDead.{first-due, first-asked, first-node, first-ended, first-told, not-dead}
 use borrow.Author.Needs.{needs}

@@ -1,4 +1,4 @@
--- `solver::turn::search_on`. The invariant: the search goes on, and what it is to give is what it was to give at first. The measure: the rows above and
+-- `search_loop::turn::search_on`. The invariant: the search goes on, and what it is to give is what it was to give at first. The measure: the rows above and
 -- twice the steps that are left.
 use mathlib.Core.Path.{refl, _∙_}
 use Rattle.search_loop.proofs.Looping.{Looping, before, less, again, ends-so}

@@ -1,4 +1,4 @@
--- `solver::turn::take_turn`: `Hearing` says what each answer of `look` makes of the search.
+-- `search_loop::turn::take_turn`: `Hearing` says what each answer of `look` makes of the search.
 use native.Mathlib.Omega.{arith}
 use Rattle.search_loop.proofs.GoesOn.{ready}
 use Rattle.search_loop.proofs.Hearing.{number-here, asks, spent-few, due-few-steps, node-few-steps, hears-spent, hears-due, hears-parts, hears-node}

@@ -1,4 +1,4 @@
--- `solver::node::back`: the test for the root's row is the definition's.
+-- `visits::node::back`: the test for the root's row is the definition's.
 use borrow.Author.Tests.{eq-eqb, ne-eqb}
 use Rattle.visits.specs.DueNode.{back-to}
 use borrow.Author.Needs.{needs}

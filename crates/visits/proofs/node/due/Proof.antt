@@ -1,4 +1,4 @@
--- `solver::node::due`: the test for spent steps is the definition's.
+-- `visits::node::due`: the test for spent steps is the definition's.
 use native.Mathlib.Omega.{arith}
 use borrow.Author.Tests.{le-leb, lt-leb}
 use Rattle.visits.specs.DueNode.{due-ending}

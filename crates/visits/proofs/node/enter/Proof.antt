@@ -1,4 +1,4 @@
--- `solver::node::enter`: the number written leaves the child's row as it was, and `OpenedChild` says what is noted of it.
+-- `visits::node::enter`: the number written leaves the child's row as it was, and `OpenedChild` says what is noted of it.
 use mathlib.Core.Path.{refl, ap, _∙_}
 use native.Mathlib.Omega.{arith}
 use lib.ListN.{length}

@@ -1,4 +1,4 @@
--- `solver::node::meet`: each case is the definition's; a child that is live is entered.
+-- `visits::node::meet`: each case is the definition's; a child that is live is entered.
 use mathlib.Core.Path.{refl}
 use Rattle.visits.specs.DueNode.{node-turn, node-room, node-answers}
 use borrow.Author.Needs.{needs}

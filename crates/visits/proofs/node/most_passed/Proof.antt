@@ -1,4 +1,4 @@
--- `solver::node::most_passed`: the test of the depth is the definition's.
+-- `visits::node::most_passed`: the test of the depth is the definition's.
 use borrow.Author.Tests.{le-leb, lt-leb}
 use Rattle.visits.specs.DueNode.{most-of}
 use borrow.Author.Needs.{needs}

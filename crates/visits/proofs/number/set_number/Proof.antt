@@ -1,4 +1,4 @@
--- `solver::number::set_number`: the two words are those of the number.
+-- `visits::number::set_number`: the two words are those of the number.
 use borrow.Author.Needs.{needs}
 use Rattle.visits.specs.ChildNumber.{number-words}
 use Rattle.visits.proofs.number.set_number.Statement.{statement}

@@ -1,4 +1,4 @@
--- `terms::occurrence::find_unknown` meets its contract. The loop's invariant: the unknown occurs in the term as it does in the rest, with what is due before it.
+-- `walks::occurrence::find_unknown` meets its contract. The loop's invariant: the unknown occurs in the term as it does in the rest, with what is due before it.
 use Prim.Native.Nat.{_+_, _*_, _-_, _≤_}
 use mathlib.Core.Path.{_≡_, refl, sym, _∙_}
 use lib.ListN.{length, drop}

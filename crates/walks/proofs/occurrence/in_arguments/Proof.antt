@@ -1,4 +1,4 @@
--- `terms::occurrence::in_arguments` meets its contract. The loop's invariant: the unknown occurs in all the terms as it does in those due from the place on.
+-- `walks::occurrence::in_arguments` meets its contract. The loop's invariant: the unknown occurs in all the terms as it does in those due from the place on.
 use Prim.Native.Nat.{_+_, _*_, _-_, _≤_}
 use mathlib.Core.Path.{_≡_, refl, sym, _∙_}
 use lib.ListN.{length, drop}

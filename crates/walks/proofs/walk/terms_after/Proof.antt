@@ -1,4 +1,4 @@
--- `terms::walk::terms_after` meets its contract: at each `return` the tests that led there say which case of `takes` holds.
+-- `walks::walk::terms_after` meets its contract: at each `return` the tests that led there say which case of `takes` holds.
 use mathlib.Core.Path.{sym}
 use lib.ListN.{List·getD-eq-default}
 use borrow.Author.Tests.{lt-ltb, le-ltb, ne-eqb}

@@ -1,4 +1,4 @@
--- `terms::walk::terms_end` meets its contract. The loop's invariant: the end of all terms is that of the terms due from `end` on.
+-- `walks::walk::terms_end` meets its contract. The loop's invariant: the end of all terms is that of the terms due from `end` on.
 use Prim.Native.Nat.{_+_, _-_, _≤_}
 use mathlib.Core.Path.{_≡_, refl, sym, _∙_}
 use lib.ListN.{length, drop}
