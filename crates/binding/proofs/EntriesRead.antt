@@ -13,8 +13,9 @@ use Rattle.replace.specs.Fitting.{fitting, told, further}
 use Rattle.replace.specs.declared.Copied.{Copied}
 use Rattle.replace.specs.declared.Copied.the-variants.{Done, Full}
 use Rattle.terms.specs.Bounds.{edition-one}
+use Rattle.terms.specs.Walk.{span-le}
 use Rattle.rows.specs.declared.parts.Part.{Part}
-use Rattle.rows.specs.Ended.{term-end, ended-within}
+use Rattle.rows.specs.Ended.{term-end}
 use Rattle.rows.specs.Pile.{wants, kept, selected, selection, selection-entry}
 use Rattle.rows.specs.Wrote.{Wrote, wrote-nothing, wrote-replaced, wrote-more, wrote-length, full-more, done-fits, done-length}
 
@@ -106,7 +107,7 @@ module _ {arities r₀ : List ℕ} {part : Part} {from n x by m to capacity : �
 
     pub size-within : read + (e + 1) ≤ n
     size-within =
-        omega (arith, end-is, ended-within edition-one arities rest 1 0, length-seg r₀ (from + read + 1) (n - (read + 1)) (omega (arith, S .parts .from-within)))
+        omega (arith, end-is, span-le edition-one arities rest 1, length-seg r₀ (from + read + 1) (n - (read + 1)) (omega (arith, S .parts .from-within)))
 
     pub entry-parts : ReplaceParts r (from + read) (e + 1) by m (to + written) (capacity - written)
     entry-parts = record {

@@ -9,7 +9,8 @@ use borrow.Author.Tests.{eq-eqb, ne-eqb}
 use Rattle.room.specs.Room.{seg, put, length-put, length-seg, seg-zero, seg-cons, take-seg, drop-seg, put-nil}
 use Rattle.room.specs.Parts.{CopyParts, apart-part, getD-put, seg-put}
 use Rattle.terms.specs.Bounds.{edition-one, edition-one-proper}
-use Rattle.rows.specs.Ended.{term-end, ended-within}
+use Rattle.terms.specs.Walk.{span-le}
+use Rattle.rows.specs.Ended.{term-end}
 use Rattle.rows.specs.Stripped.{kernel-at}
 use Rattle.rows.specs.Pile.{kept}
 use Rattle.plain_steps.specs.Join.{gathered, gathered-entry, gathered-none, stripped-ended}
@@ -73,7 +74,7 @@ module _ {arities r₀ : List ℕ} {from n x to : ℕ} {r : List ℕ} {read writ
     length-rest = length-seg r₀ (from + read + 1) (n - (read + 1)) (omega (arith, S .parts .from-within))
 
     pub size-within : read + (e + 1) ≤ n
-    size-within = omega (arith, end-is, ended-within edition-one arities rest 1 0, length-rest)
+    size-within = omega (arith, end-is, span-le edition-one arities rest 1, length-rest)
 
     next : gathered edition-one arities x (S .most) (seg r₀ (from + read) (n - read))
         ≡ kept (eqb (getD r (from + read) 0) x) (take (kernel-at edition-one arities rest) rest) ++ gathered edition-one arities x (S .most - 1) (seg r₀ (from + (read + (e + 1))) (n - (read + (e + 1))))

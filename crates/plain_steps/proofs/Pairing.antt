@@ -8,11 +8,12 @@ use lib.ListN.{length, take, drop, set, length-append, length-set}
 use Rattle.room.specs.Room.{seg, put, Within, length-put, length-seg, put-nil, take-seg, drop-seg}
 use Rattle.room.specs.Parts.{Apart, CopyParts, apart-part, seg-put, seg-set}
 use Rattle.terms.specs.Bounds.{edition-one}
+use Rattle.terms.specs.Walk.{span-le}
 use Rattle.rows.specs.declared.parts.Rest.{Rest}
 use Rattle.rows.specs.declared.first.Subject.{Subject}
 use Rattle.rows.specs.Bind.{FinishParts}
 use Rattle.rows.specs.Finished.{finish-long}
-use Rattle.rows.specs.Ended.{term-end, ended-within}
+use Rattle.rows.specs.Ended.{term-end}
 use Rattle.plain_steps.specs.StepParts.{postponed, PostponeParts, PairParts, DecomposeParts, paired, length-paired, decomposed}
 use Rattle.binding.proofs.RestCopied.{put-after}
 
@@ -46,7 +47,7 @@ module _ (arities : List ℕ) {r₀ : List ℕ} {left n right m to : ℕ} (P : P
   lent k c f = let j : k + c - k ≡ c = omega arith in rw j at f
 
   pub lent-within : (k c : ℕ) {e : ℕ} → Within r₀ k c → e ≡ term-end edition-one arities (take (k + c - k) (drop k r₀)) → e ≤ c
-  lent-within k c h f = omega (arith, lent k c f, ended-within edition-one arities (seg r₀ k c) 1 0, length-seg r₀ k c h)
+  lent-within k c h f = omega (arith, lent k c f, span-le edition-one arities (seg r₀ k c) 1, length-seg r₀ k c h)
 
   module _ {e : ℕ} (h : e ≤ n) where
     pub left-copy : CopyParts r₀ left e to
@@ -147,10 +148,10 @@ module _ {arities r₀ : List ℕ} {k left n right m to : ℕ} {r : List ℕ} {i
     g-is = rw (unread (right + q) (m - q) (right-apart (m - q) (omega arith))) at v
 
     pub e-within : l + e ≤ n
-    e-within = omega (arith, e-is, S .left-passed, ended-within edition-one arities us 1 0, length-seg r₀ (left + l) (n - l) (omega (arith, S .left-passed, S .parts .left-within)))
+    e-within = omega (arith, e-is, S .left-passed, span-le edition-one arities us 1, length-seg r₀ (left + l) (n - l) (omega (arith, S .left-passed, S .parts .left-within)))
 
     pub g-within : q + g ≤ m
-    g-within = omega (arith, g-is, S .right-passed, ended-within edition-one arities vs 1 0, length-seg r₀ (right + q) (m - q) (omega (arith, S .right-passed, S .parts .right-within)))
+    g-within = omega (arith, g-is, S .right-passed, span-le edition-one arities vs 1, length-seg r₀ (right + q) (m - q) (omega (arith, S .right-passed, S .parts .right-within)))
 
     abbrev piece : List ℕ
     piece = seg r₀ (left + l) e ++ seg r₀ (right + q) g

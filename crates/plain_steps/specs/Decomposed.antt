@@ -13,6 +13,7 @@ use Rattle.terms.specs.Term.{Terms, functor, words, words*, size, size*, list, 
 use Rattle.terms.specs.Formed.{Equation, Formed, Formed*, formed-functor, formed-none, formed-more, row, sides}
 use Rattle.terms.specs.Flat.{length-words}
 use Rattle.terms.specs.Answers.{pile-words}
+use Rattle.terms.specs.Walk.{term-ends}
 use Rattle.search.specs.State.{State, live, pend, size-equations, size-named, state-size}
 use Rattle.search.specs.Children.{pairwise}
 use Rattle.search.specs.StateWords.{pending-words}
@@ -21,7 +22,6 @@ use Rattle.rows.specs.declared.parts.Made.{Made}
 use Rattle.rows.specs.Header.{header-of}
 use Rattle.rows.specs.Bind.{FinishParts}
 use Rattle.binding.specs.Keep.{kept-piece, kept-header}
-use Rattle.rows.specs.Ended.{term-end-words}
 use Rattle.rows.specs.Finished.{Finished, finish-long}
 use Rattle.rows.specs.Row.{Makes, Beside, beside-put, finished-beside}
 use Rattle.binding.specs.Child.{Piled, extended, keep-makes}
@@ -40,8 +40,8 @@ module _ {b : Bounds} {arities : List ℕ} {n : ℕ} (worded : Worded b arities 
       let k = length-words b t in
       let l = length-words b u in
       rw (
-        term-end-words worded f (words* b ts),
-        term-end-words worded g (words* b us),
+        term-ends worded f (words* b ts),
+        term-ends worded g (words* b us),
         take-at (words b t) (words* b ts) (size t) k,
         take-at (words b u) (words* b us) (size u) l,
         drop-at (words b t) (words* b ts) (size t) k,

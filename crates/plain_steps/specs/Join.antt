@@ -16,8 +16,9 @@ use Rattle.terms.specs.Term.{words, size, members, kernel}
 use Rattle.terms.specs.Formed.{Formed}
 use Rattle.terms.specs.Answers.{Named, pile-words}
 use Rattle.terms.specs.Flat.{length-words, eqb-shift}
+use Rattle.terms.specs.Walk.{span, span-le, term-ends}
 use Rattle.search.specs.Children.{entries, joined}
-use Rattle.rows.specs.Ended.{ended, ended-from, ended-within, term-end, term-end-words}
+use Rattle.rows.specs.Ended.{term-end}
 use Rattle.rows.specs.Stripped.{stripped, kernel-at, kernel-at-words, kernel-place}
 use Rattle.rows.specs.Pile.{kept}
 use Rattle.rows.specs.Members.{member-words, members-append, take-members, length-members, words-members}
@@ -47,19 +48,19 @@ length-kept false k ws = omega arith
 
 -- the kernel stands before the end of its term
 module _ {b : Bounds} (proper : Proper b) (arities : List ℕ) where
-  pub stripped-ended : (ws : List ℕ) (due place : ℕ) → stripped b arities ws due place ≤ ended b arities ws (suc due) place
-  unfolding stripped ended
+  pub stripped-ended : (ws : List ℕ) (due place : ℕ) → stripped b arities ws due place ≤ place + span b arities ws (suc due)
+  unfolding stripped span
   stripped-ended [] due place = omega arith
   stripped-ended (w ∷ ws) zero place =
       cases (eqb w 1)
       (λ e.
       let o : w ≡ 1 = eqb-true w 1 e in
       let k : 0 + takes b arities w ≡ 2 = zero-add (takes b arities w) ∙ rw o (takes-member proper arities) in
-      rw (e, k) (stripped-ended ws 1 (place + 1)))
-      (λ e. rw e (omega (arith, ended-from b arities ws (0 + takes b arities w) (place + 1))))
+      rw (e, k) (omega (arith, stripped-ended ws 1 (place + 1))))
+      (λ e. rw e (omega arith))
   stripped-ended (w ∷ ws) (suc due) place =
       let e : suc due + takes b arities w ≡ suc (due + takes b arities w) = omega arith in
-      rw e (stripped-ended ws (due + takes b arities w) (place + 1))
+      rw e (omega (arith, stripped-ended ws (due + takes b arities w) (place + 1)))
 
   -- no more words than the pile has
   pub length-gathered : (x most : ℕ) (ws : List ℕ) → length (gathered b arities x most ws) ≤ length ws
@@ -76,7 +77,7 @@ module _ {b : Bounds} (proper : Proper b) (arities : List ℕ) where
         length-gathered x most (drop e ws),
         length-drop e ws,
         stripped-ended ws 0 0,
-        ended-within b arities ws 1 0,
+        span-le b arities ws 1,
       )
 
 module _ {b : Bounds} {arities : List ℕ} {k : ℕ} (worded : Worded b arities k) (x : ℕ) where
@@ -96,7 +97,7 @@ module _ {b : Bounds} {arities : List ℕ} {k : ℕ} (worded : Worded b arities 
   gathered-pile (suc most) (both {x = n} {xs = ns} f fs) h =
       let v : List ℕ = words b (n .value) in
       let l : length v ≡ size (n .value) = length-words b (n .value) in
-      let e : term-end b arities (v ++ pile-words b ns) ≡ size (n .value) = term-end-words worded f (pile-words b ns) in
+      let e : term-end b arities (v ++ pile-words b ns) ≡ size (n .value) = term-ends worded f (pile-words b ns) in
       let q : kernel-at b arities (v ++ pile-words b ns) ≡ kernel-place (n .value) = kernel-at-words worded f (pile-words b ns) in
       let p : take (kernel-place (n .value)) (v ++ pile-words b ns) ≡ member-words b (members (n .value)) =
       take-append-le (kernel-place (n .value)) v (pile-words b ns)

@@ -8,15 +8,16 @@ use lib.ListN.{length, take, drop, getD, length-drop}
 use lib.Seq.{length-take-le, take-length}
 use Rattle.terms.specs.Bounds.{edition-one}
 use Rattle.terms.specs.Kind.{within}
+use Rattle.terms.specs.Walk.{span-le}
 use Rattle.search.specs.declared.steps.Step.{Step}
 use Rattle.rows.specs.declared.first.First.{First}
 use Rattle.rows.specs.declared.first.Subject.{Subject}
-use Rattle.rows.specs.Ended.{term-end, ended-within}
+use Rattle.rows.specs.Ended.{term-end}
 use Rattle.rows.specs.Stepping.{unknown-word, step-of}
 use Rattle.rows.specs.First.{first-in, subject-by, subject-in}
 
 pub term-within : (arities ws : List ℕ) {k : ℕ} → k ≡ term-end edition-one arities ws → k ≤ length ws
-term-within arities ws {k} e = omega (arith, ended-within edition-one arities ws 1 0)
+term-within arities ws {k} e = omega (arith, span-le edition-one arities ws 1)
 
 -- the words from a place on, as the code lends them
 pub others : (ws : List ℕ) (k : ℕ) → take (length ws - k) (drop k ws) ≡ drop k ws

@@ -14,6 +14,7 @@ use Rattle.terms.specs.Term.{Term, words, size}
 use Rattle.terms.specs.Formed.{Equation, Formed}
 use Rattle.terms.specs.Answers.{binding-words, pile-words}
 use Rattle.terms.specs.Flat.{length-words}
+use Rattle.terms.specs.Walk.{term-ends}
 use Rattle.search.specs.State.{State, pend, size-equations, size-named, state-size}
 use Rattle.search.specs.Classify.{classify}
 use Rattle.search.specs.StateWords.{pending-words, state-words, length-pending, length-pile, length-bindings}
@@ -21,7 +22,7 @@ use Rattle.rows.specs.declared.parts.Rest.{Rest}
 use Rattle.rows.specs.declared.first.First.{First}
 use Rattle.rows.specs.declared.first.Subject.{Subject}
 use Rattle.rows.specs.declared.header.Header.{Header}
-use Rattle.rows.specs.Ended.{term-end, term-end-words}
+use Rattle.rows.specs.Ended.{term-end}
 use Rattle.rows.specs.Stepping.{unknown-word, step-of, step-of-words}
 use Rattle.rows.specs.States.{pending-append}
 use Rattle.rows.specs.Row.{Holds, Rested, header-for, header-words}
@@ -76,10 +77,10 @@ module _ {b : Bounds} {arities : List ℕ} {n : ℕ} (worded : Worded b arities 
       let k = length-words b t in
       let l = length-words b u in
       rw (
-        term-end-words worded f (words b u ++ ws),
+        term-ends worded f (words b u ++ ws),
         drop-at (words b t) (words b u ++ ws) (size t) k,
         take-at (words b t) (words b u ++ ws) (size t) k,
-        term-end-words worded g ws,
+        term-ends worded g ws,
         take-at (words b u) ws (size u) l,
         step-of-words worded f g,
       )

@@ -4,7 +4,6 @@ use Prim.Native.Nat.{ℕ, zero, suc, _+_}
 use mathlib.Core.Path.{_≡_, refl, ap, sym, _∙_}
 use mathlib.Core.List.{List, [], _∷_, _++_, append-assoc}
 use mathlib.Core.Bool.{Bool, true, false, not}
-use native.Mathlib.Numerals.{add-one}
 use lib.Dec.{eqb}
 use lib.ListN.{length, take, drop}
 use lib.Seq.{take-at, drop-at}
@@ -15,11 +14,12 @@ use Rattle.terms.specs.Formed.{Formed}
 use Rattle.terms.specs.Answers.{Named, pile-words}
 use Rattle.terms.specs.Lists.{All, none, both, any, or-neither, cases}
 use Rattle.terms.specs.Flat.{length-words, eqb-shift}
+use Rattle.terms.specs.Walk.{span, term-ends}
 use Rattle.search.specs.Children.{entries, others}
 use Rattle.rows.specs.declared.parts.Part.{Part}
 use Rattle.rows.specs.declared.parts.Part.the-variants.{Entries, Others}
 use Rattle.rows.specs.Flat.{holds}
-use Rattle.rows.specs.Ended.{ended, ended-shift, term-end, term-end-words}
+use Rattle.rows.specs.Ended.{term-end}
 
 -- is the entry of an unknown wanted?
 unfoldable pub wants : Part → ℕ → ℕ → Bool
@@ -57,16 +57,14 @@ module _ (b : Bounds) (arities : List ℕ) (part : Part) (x : ℕ) where
 
   -- the rest of an entry, and then the next one
   selected-rest : (ws : List ℕ) (due : ℕ) (keep : Bool)
-      → selected b arities part x due keep ws ≡ kept keep (take (ended b arities ws due 0) ws) ++ selection b arities part x (drop (ended b arities ws due 0) ws)
-  unfolding selected ended kept
+      → selected b arities part x due keep ws ≡ kept keep (take (span b arities ws due) ws) ++ selection b arities part x (drop (span b arities ws due) ws)
+  unfolding selected span kept
   selected-rest [] due true = refl
   selected-rest [] due false = refl
   selected-rest (w ∷ ws) zero true = refl
   selected-rest (w ∷ ws) zero false = refl
   selected-rest (w ∷ ws) (suc due) keep =
-      let e : ended b arities ws (due + takes b arities w) (0 + 1) ≡ suc (ended b arities ws (due + takes b arities w) 0) =
-      ended-shift b arities ws (due + takes b arities w) 0 1 ∙ add-one _ in
-      rw (e, selected-rest ws (due + takes b arities w) keep) (also-kept keep w _ _)
+      rw (selected-rest ws (due + takes b arities w) keep) (also-kept keep w _ _)
 
   -- the first entry, and then the others
   pub selection-entry : (w : ℕ) (ws : List ℕ) → selection b arities part x (w ∷ ws)
@@ -132,7 +130,7 @@ module _ {b : Bounds} {arities : List ℕ} {k : ℕ} (worded : Worded b arities 
   selection-pile Entries none = refl
   selection-pile Others none = refl
   selection-pile part (both {x = n} {xs = ns} f fs) =
-      let e : term-end b arities (words b (n .value) ++ pile-words b ns) ≡ size (n .value) = term-end-words worded f (pile-words b ns) in
+      let e : term-end b arities (words b (n .value) ++ pile-words b ns) ≡ size (n .value) = term-ends worded f (pile-words b ns) in
       let l : length (words b (n .value)) ≡ size (n .value) = length-words b (n .value) in
       selection-entry b arities part (b .first-unknown + x) (b .first-unknown + n .name) (words b (n .value) ++ pile-words b ns)
       ∙ rw (e, take-at (words b (n .value)) (pile-words b ns) (size (n .value)) l, drop-at (words b (n .value)) (pile-words b ns) (size (n .value)) l, selection-pile part fs)

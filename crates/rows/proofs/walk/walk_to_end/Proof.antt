@@ -1,26 +1,30 @@
-use Rattle.rows.specs.Ended.{ended, ended-none, ended-out, ended-on}
 use Rattle.terms.specs.Bounds.{edition-one}
+use Rattle.terms.specs.Walk.{span, span-zero}
+use Rattle.walks.proofs.Walking.{span-out, span-step}
 use lib.ListN.{length, drop}
 use native.Mathlib.Omega.{arith}
-use mathlib.Core.Path.{_≡_, refl, sym, _∙_}
+use native.Mathlib.Nat.{zero-add}
+use mathlib.Core.Path.{_≡_, sym, _∙_}
 use Prim.Native.Nat.{_+_, _*_, _-_, _≤_}
 use borrow.Author.Needs.{needs}
 use Rattle.rows.proofs.walk.walk_to_end.Statement.{statement}
 use Rattle.rows.proofs.walk.walk_to_end.Tie as tie
 
 abbrev Inv-loop : tie.InvT-loop
-Inv-loop arities words place₀ due₀ place due = (ended edition-one arities words 1 0 ≡ ended edition-one arities (drop place words) due place) × (place ≤ length words) × (due ≤ 1 + 255 * place)
+Inv-loop arities words place₀ due₀ place due = (span edition-one arities words 1 ≡ place + span edition-one arities (drop place words) due) × (place ≤ length words) × (due ≤ 1 + 255 * place)
 
 abbrev μ-loop : tie.MeasureT-loop
 μ-loop arities words place₀ due₀ place due = length words - place
 
 -- src/walk.rt:50:5
 loop-holds : tie.Need-loop-holds Inv-loop μ-loop
-loop-holds c = (refl, omega arith, omega arith)
+loop-holds c = (sym (zero-add _), omega arith, omega arith)
 
 -- src/walk.rt:52:13
 returns : tie.Need-returns Inv-loop μ-loop
-returns c = sym (c .before .before .loop .inv .0 ∙ ended-out _ _ _ _ _ (c .if1 .taken))
+returns c =
+    let l = c .before .before .loop in
+    sym (l .inv .0 ∙ span-out edition-one _ _ _ _ (l .inv .1) (omega arith) ∙ omega arith)
 
 -- src/walk.rt:54:15
 sub-due : tie.Need-sub-due Inv-loop μ-loop
@@ -55,14 +59,15 @@ loop-again : tie.Need-loop-again Inv-loop μ-loop
 loop-again c =
     let l = c .before .before .before .before in
     let t = c .before .before in
-    (l .loop .inv .0 ∙ rw (c .terms-after .ensures .0) (ended-on _ _ _ _ _ (t .if1 .left) (t .before .loop-test .taken)), omega arith, omega (arith, c .terms-after .ensures .1))
+    (l .loop .inv .0 ∙ span-step edition-one _ _ _ (t .if1 .left) (c .terms-after .ensures .0) _ (t .before .loop-test .taken), omega arith, omega (arith, c .terms-after .ensures .1))
 
 -- src/walk.rt:44:1
 returns-2 : tie.Need-returns-2 Inv-loop μ-loop
 returns-2 c =
     let l = c .before in
     let z : l .loop .due ≡ 0 = omega arith in
-    sym (rw z at (l .loop .inv .0) ∙ ended-none _ _ _ _)
+    let a = c .before .before .before .before .args in
+    sym (rw z at (l .loop .inv .0) ∙ omega (arith, span-zero edition-one (a .arities .now) (drop (l .loop .place) (a .words .now))))
 
 pub walk-to-end-spec : {M : Type 1} → statement M
 walk-to-end-spec =
