@@ -4,71 +4,54 @@ use borrow.Author.Needs.{needs}
 use Rattle.binding.proofs.bind.bind_last.Statement.{statement}
 use Rattle.binding.proofs.bind.bind_last.Tie as tie
 
--- src/bind.rt:75:14
 add-at : tie.Need-add-at
 add-at c = search needs
 
--- src/bind.rt:75:14
 add-at-2 : tie.Need-add-at-2
 add-at-2 c = search needs
 
--- src/bind.rt:77:19
 add-if1 : tie.Need-add-if1
 add-if1 c = search needs
 
--- src/bind.rt:77:19
 add-if1-2 : tie.Need-add-if1-2
 add-if1-2 c = search needs
 
--- src/bind.rt:78:9
 returns : tie.Need-returns
 returns c = last-full (c .before .before .before .before .pre .0) _ (c .if1 .taken)
 
--- src/bind.rt:80:5
 copy-requires : tie.Need-copy-requires
 copy-requires c κs = bindings-parts (c .before .before .before .before .before .pre .0) (c .before .if1 .left)
 
--- src/bind.rt:81:20
 sub-room : tie.Need-sub-room
 sub-room c = search needs
 
--- src/bind.rt:81:10
 add-room : tie.Need-add-room
 add-room c = search needs
 
--- src/bind.rt:81:5
 mul-room : tie.Need-mul-room
 mul-room c = search needs
 
--- src/bind.rt:81:5
 slice-write-room : tie.Need-slice-write-room
 slice-write-room c = search needs
 
--- src/bind.rt:82:29
 add-copy : tie.Need-add-copy
 add-copy c = search needs
 
--- src/bind.rt:82:29
 add-copy-2 : tie.Need-add-copy-2
 add-copy-2 c = search needs
 
--- src/bind.rt:82:5
 copy-requires-2 : tie.Need-copy-requires-2
 copy-requires-2 c κs = value-parts (c .before .before .before .before .before .before .before .before .before .pre .0) (c .before .before .before .before .before .if1 .left) (c .before .before .before .copy .ensures) _
 
--- src/bind.rt:83:18
 add-t11 : tie.Need-add-t11
 add-t11 c = search needs
 
--- src/bind.rt:83:18
 add-t10 : tie.Need-add-t10
 add-t10 c = search needs
 
--- src/bind.rt:71:1
 same-length : tie.Need-same-length
 same-length c = wrote-length (last-written (c .before .before .before .before .before .before .before .before .before .before .before .before .pre .0) (c .before .before .before .before .before .before .before .before .if1 .left) (c .before .before .before .before .before .before .copy .ensures) _ (c .before .before .copy2 .ensures))
 
--- src/bind.rt:71:1
 returns-2 : tie.Need-returns-2
 returns-2 c = last-written (c .before .before .before .before .before .before .before .before .before .before .before .before .pre .0) (c .before .before .before .before .before .before .before .before .if1 .left) (c .before .before .before .before .before .before .copy .ensures) _ (c .before .before .copy2 .ensures)
 

@@ -7,40 +7,32 @@ use borrow.Author.Needs.{needs}
 use Rattle.binding.proofs.bind.bind_pending.Statement.{statement}
 use Rattle.binding.proofs.bind.bind_pending.Tie as tie
 
--- src/bind.rt:48:11
 replace-all-requires : tie.Need-replace-all-requires
 replace-all-requires c κs = pending-parts (c .before .before .before .pre)
 
--- src/bind.rt:49:22
 enum-known-k : tie.Need-enum-known-k
 enum-known-k c = search needs
 
--- src/bind.rt:54:17
 add-replace-released : tie.Need-add-replace-released
 add-replace-released c = search needs
 
--- src/bind.rt:59:17
 add-replace-released-2 : tie.Need-add-replace-released-2
 add-replace-released-2 c =
     let P = c .before .before .before .before .before .before .before .before .before .before .pre in
     let k = pending-within (c .before .before .before .before .before .before .before .before .before .before .pre) (c .before .before .before .before .before .before .before .before .before .before .args .arities .now) _ (c .before .before .before .before .before .before .replace-all .ensures .0) (c .before .before .before .before .before .before .replace-all .ensures .1) _ (c .before .before .k .given .1) in
     omega (arith, P .to-within)
 
--- src/bind.rt:60:17
 sub-replace-released : tie.Need-sub-replace-released
 sub-replace-released c =
     let k = pending-within (c .before .before .before .before .before .before .before .before .before .before .pre) (c .before .before .before .before .before .before .before .before .before .before .args .arities .now) _ (c .before .before .before .before .before .before .replace-all .ensures .0) (c .before .before .before .before .before .before .replace-all .ensures .1) _ (c .before .before .k .given .1) in
     omega arith
 
--- src/bind.rt:50:19
 replace-released-requires : tie.Need-replace-released-requires
 replace-released-requires c κs = entries-parts (c .before .before .before .before .before .before .before .before .before .before .pre) (c .before .before .before .before .before .before .before .before .before .before .args .arities .now) _ (c .before .before .before .before .before .before .replace-all .ensures .0) (c .before .before .before .before .before .before .replace-all .ensures .1) _ (c .before .before .k .given .1)
 
--- src/bind.rt:62:30
 enum-known-l : tie.Need-enum-known-l
 enum-known-l c = search needs
 
--- src/bind.rt:62:49
 add-t24 : tie.Need-add-t24
 unfolding further
 add-t24 c =
@@ -48,37 +40,29 @@ add-t24 c =
     let w = entries-written (c .before .before .before .before .before .before .before .before .before .before .before .before .before .before .before .before .pre) (c .before .before .before .before .before .before .before .before .before .before .before .before .before .before .before .before .args .arities .now) _ (c .before .before .before .before .before .before .before .before .before .before .before .before .replace-all .ensures .0) (c .before .before .before .before .before .before .before .before .before .before .before .before .replace-all .ensures .1) _ (c .before .before .before .before .before .before .before .before .k .given .1) (rw (c .before .l .given .1) at (c .before .before .before .before .before .replace-released .ensures)) in
     omega (arith, P .to-within, done-fits w, done-length w)
 
--- src/bind.rt:63:33
 enum-told : tie.Need-enum-told
 enum-told c = search needs
 
--- src/bind.rt:66:25
 enum-told-2 : tie.Need-enum-told-2
 enum-told-2 c = search needs
 
--- src/bind.rt:33:1
 same-length : tie.Need-same-length
 same-length c = search needs
 
--- src/bind.rt:33:1
 returns : tie.Need-returns
 unfolding further
 returns c = entries-written (c .before .before .before .before .before .before .before .before .before .before .before .before .before .before .before .before .pre) (c .before .before .before .before .before .before .before .before .before .before .before .before .before .before .before .before .args .arities .now) _ (c .before .before .before .before .before .before .before .before .before .before .before .before .replace-all .ensures .0) (c .before .before .before .before .before .before .before .before .before .before .before .before .replace-all .ensures .1) _ (c .before .before .before .before .before .before .before .before .k .given .1) (rw (c .before .l .given .1) at (c .before .before .before .before .before .replace-released .ensures))
 
--- src/bind.rt:33:1
 same-length-2 : tie.Need-same-length-2
 same-length-2 c = search needs
 
--- src/bind.rt:33:1
 returns-2 : tie.Need-returns-2
 unfolding further
 returns-2 c = entries-written (c .before .before .before .before .before .before .before .before .before .before .before .before .before .before .before .pre) (c .before .before .before .before .before .before .before .before .before .before .before .before .before .before .before .args .arities .now) _ (c .before .before .before .before .before .before .before .before .before .before .before .replace-all .ensures .0) (c .before .before .before .before .before .before .before .before .before .before .before .replace-all .ensures .1) _ (c .before .before .before .before .before .before .before .k .given .1) (rw (c .enum-told .given .1) at (c .before .before .before .before .replace-released .ensures))
 
--- src/bind.rt:33:1
 same-length-3 : tie.Need-same-length-3
 same-length-3 c = search needs
 
--- src/bind.rt:33:1
 returns-3 : tie.Need-returns-3
 returns-3 c = pending-full (c .before .before .before .before .before .before .before .before .pre) (c .before .before .before .before .before .before .before .before .args .arities .now) _ (c .before .before .before .before .replace-all .ensures .0) (c .before .before .before .before .replace-all .ensures .1) (c .enum-told2 .given .1)
 

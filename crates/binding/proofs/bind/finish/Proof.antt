@@ -5,53 +5,41 @@ use borrow.Author.Needs.{needs}
 use Rattle.binding.proofs.bind.finish.Statement.{statement}
 use Rattle.binding.proofs.bind.finish.Tie as tie
 
--- src/bind.rt:168:55
 add-bind-pending : tie.Need-add-bind-pending
 add-bind-pending c = search needs
 
--- src/bind.rt:168:55
 add-bind-pending-2 : tie.Need-add-bind-pending-2
 add-bind-pending-2 c = search needs
 
--- src/bind.rt:168:78
 sub-bind-pending : tie.Need-sub-bind-pending
 sub-bind-pending c = search needs
 
--- src/bind.rt:168:11
 bind-pending-requires : tie.Need-bind-pending-requires
 bind-pending-requires c κs = body-part (c .before .before .before .pre)
 
--- src/bind.rt:169:22
 enum-known-k : tie.Need-enum-known-k
 enum-known-k c = search needs
 
--- src/bind.rt:169:75
 add-finish-pile : tie.Need-add-finish-pile
 add-finish-pile c =
     let s = row-sum (c .before .before .before .before .before .before .before .before .before .before .pre) (rw (c .before .before .k .given .1) at (c .before .before .before .before .before .before .bind-pending .ensures)) in
     omega (arith, c .before .before .before .before .before .before .before .before .before .before .pre .size-small)
 
--- src/bind.rt:169:28
 finish-pile-requires : tie.Need-finish-pile-requires
 finish-pile-requires c κs = row-next (c .before .before .before .before .before .before .before .before .before .before .pre) (rw (c .before .before .k .given .1) at (c .before .before .before .before .before .before .bind-pending .ensures))
 
--- src/bind.rt:170:25
 enum-told : tie.Need-enum-told
 enum-told c = search needs
 
--- src/bind.rt:153:1
 same-length : tie.Need-same-length
 same-length c = search needs
 
--- src/bind.rt:153:1
 returns : tie.Need-returns
 returns c = all-finished (c .before .before .before .before .before .before .before .before .before .before .before .before .before .args .arities .now) (c .before .before .before .before .before .before .before .before .before .before .before .before .before .pre) (rw (c .before .before .before .before .before .k .given .1) at (c .before .before .before .before .before .before .before .before .before .bind-pending .ensures)) (c .before .before .finish-pile .ensures)
 
--- src/bind.rt:153:1
 same-length-2 : tie.Need-same-length-2
 same-length-2 c = search needs
 
--- src/bind.rt:153:1
 returns-2 : tie.Need-returns-2
 returns-2 c = all-full (c .before .before .before .before .before .before .before .before .args .arities .now) (c .before .before .before .before .before .before .before .before .pre) (rw (c .enum-told .given .1) at (c .before .before .before .before .bind-pending .ensures))
 

@@ -3,51 +3,39 @@ use borrow.Author.Needs.{needs}
 use Rattle.binding.proofs.bind.finish_pile.Statement.{statement}
 use Rattle.binding.proofs.bind.finish_pile.Tie as tie
 
--- src/bind.rt:134:14
 add-at : tie.Need-add-at
 add-at c = search needs
 
--- src/bind.rt:144:9
 add-replace-others : tie.Need-add-replace-others
 add-replace-others c = search needs
 
--- src/bind.rt:144:9
 add-replace-others-2 : tie.Need-add-replace-others-2
 add-replace-others-2 c = search needs
 
--- src/bind.rt:145:9
 sub-replace-others : tie.Need-sub-replace-others
 sub-replace-others c = search needs
 
--- src/bind.rt:135:11
 replace-others-requires : tie.Need-replace-others-requires
 replace-others-requires c κs = others-parts (c .before .before .before .before .pre)
 
--- src/bind.rt:147:22
 enum-known-k : tie.Need-enum-known-k
 enum-known-k c = search needs
 
--- src/bind.rt:147:28
 finish-bindings-requires : tie.Need-finish-bindings-requires
 finish-bindings-requires c κs = pile-next (c .before .before .before .before .before .before .before .before .before .before .before .args .arities .now) (c .before .before .before .before .before .before .before .before .before .before .before .pre) (rw (c .before .before .k .given .1) at (c .before .before .before .before .before .before .replace-others .ensures))
 
--- src/bind.rt:148:25
 enum-told : tie.Need-enum-told
 enum-told c = search needs
 
--- src/bind.rt:119:1
 same-length : tie.Need-same-length
 same-length c = search needs
 
--- src/bind.rt:119:1
 returns : tie.Need-returns
 returns c = pile-finished (c .before .before .before .before .before .before .before .before .before .before .before .before .before .before .args .arities .now) (c .before .before .before .before .before .before .before .before .before .before .before .before .before .before .pre) (rw (c .before .before .before .before .before .k .given .1) at (c .before .before .before .before .before .before .before .before .before .replace-others .ensures)) (c .before .before .finish-bindings .ensures)
 
--- src/bind.rt:119:1
 same-length-2 : tie.Need-same-length-2
 same-length-2 c = search needs
 
--- src/bind.rt:119:1
 returns-2 : tie.Need-returns-2
 returns-2 c = pile-full (c .before .before .before .before .before .before .before .before .before .args .arities .now) (c .before .before .before .before .before .before .before .before .before .pre) (rw (c .enum-told .given .1) at (c .before .before .before .before .replace-others .ensures))
 

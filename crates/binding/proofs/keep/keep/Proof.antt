@@ -6,61 +6,47 @@ use borrow.Author.Needs.{needs}
 use Rattle.binding.proofs.keep.keep.Statement.{statement}
 use Rattle.binding.proofs.keep.keep.Tie as tie
 
--- src/keep.rt:43:40
 add-keep-rest : tie.Need-add-keep-rest
 add-keep-rest c = search needs
 
--- src/keep.rt:43:40
 add-keep-rest-2 : tie.Need-add-keep-rest-2
 add-keep-rest-2 c = search needs
 
--- src/keep.rt:43:63
 sub-keep-rest : tie.Need-sub-keep-rest
 sub-keep-rest c = search needs
 
--- src/keep.rt:43:11
 keep-rest-requires : tie.Need-keep-rest-requires
 keep-rest-requires c κs = body-part (c .before .before .pre)
 
--- src/keep.rt:44:22
 enum-known-k : tie.Need-enum-known-k
 enum-known-k c = search needs
 
--- src/keep.rt:45:27
 add-pending : tie.Need-add-pending
 add-pending c = search needs
 
--- src/keep.rt:46:24
 add-pile : tie.Need-add-pile
 add-pile c = search needs
 
--- src/keep.rt:47:24
 add-body : tie.Need-add-body
 add-body c =
     let s = row-sum (c .before .before .before .before .before .before .before .before .before .before .pre) (rw (c .before .before .before .k .given .1) at (c .before .before .before .before .before .before .before .keep-rest .ensures)) in
     omega (arith, c .before .before .before .before .before .before .before .before .before .before .pre .size-small)
 
--- src/keep.rt:49:13
 seal-requires : tie.Need-seal-requires
 seal-requires c κs = keep-seal-parts (c .before .before .before .before .before .before .before .before .before .before .before .pre) (rw (c .before .before .before .before .k .given .1) at (c .before .before .before .before .before .before .before .before .keep-rest .ensures))
 
--- src/keep.rt:52:25
 enum-told : tie.Need-enum-told
 enum-told c = search needs
 
--- src/keep.rt:30:1
 same-length : tie.Need-same-length
 same-length c = search needs
 
--- src/keep.rt:30:1
 returns : tie.Need-returns
 returns c = keep-sealed (c .before .before .before .before .before .before .before .before .before .before .before .before .before .before .pre) (rw (c .before .before .before .before .before .before .before .k .given .1) at (c .before .before .before .before .before .before .before .before .before .before .before .keep-rest .ensures)) (c .before .before .seal .ensures)
 
--- src/keep.rt:30:1
 same-length-2 : tie.Need-same-length-2
 same-length-2 c = search needs
 
--- src/keep.rt:30:1
 returns-2 : tie.Need-returns-2
 returns-2 c = keep-large (c .before .before .before .before .before .before .before .pre) (rw (c .enum-told .given .1) at (c .before .before .before .before .keep-rest .ensures))
 

@@ -3,63 +3,48 @@ use borrow.Author.Needs.{needs}
 use Rattle.binding.proofs.keep.keep_rest.Statement.{statement}
 use Rattle.binding.proofs.keep.keep_rest.Tie as tie
 
--- src/keep.rt:18:13
 add-n : tie.Need-add-n
 add-n c = search needs
 
--- src/keep.rt:20:19
 add-if1 : tie.Need-add-if1
 add-if1 c = search needs
 
--- src/keep.rt:20:19
 add-if1-2 : tie.Need-add-if1-2
 add-if1-2 c = search needs
 
--- src/keep.rt:21:9
 returns : tie.Need-returns
 returns c = keep-full (c .before .before .before .pre) (c .if1 .taken)
 
--- src/keep.rt:23:5
 copy-requires : tie.Need-copy-requires
 copy-requires c κs = front-parts (c .before .before .before .before .pre) (c .before .if1 .left)
 
--- src/keep.rt:24:29
 add-copy : tie.Need-add-copy
 add-copy c = search needs
 
--- src/keep.rt:24:5
 copy-requires-2 : tie.Need-copy-requires-2
 copy-requires-2 c κs = entry-parts (c .before .before .before .before .before .before .before .before .pre) (c .before .before .before .before .before .if1 .left) (c .before .before .before .copy .ensures)
 
--- src/keep.rt:25:22
 add-copy-2 : tie.Need-add-copy-2
 add-copy-2 c = search needs
 
--- src/keep.rt:25:37
 add-copy-3 : tie.Need-add-copy-3
 add-copy-3 c = search needs
 
--- src/keep.rt:25:37
 add-copy-4 : tie.Need-add-copy-4
 add-copy-4 c = search needs
 
--- src/keep.rt:25:5
 copy-requires-3 : tie.Need-copy-requires-3
 copy-requires-3 c κs = back-parts (c .before .before .before .before .before .before .before .before .before .before .before .before .pre) (c .before .before .before .before .before .before .before .before .before .if1 .left) (c .before .before .before .before .before .before .before .copy .ensures) (c .before .before .before .copy2 .ensures)
 
--- src/keep.rt:26:18
 add-t11 : tie.Need-add-t11
 add-t11 c = search needs
 
--- src/keep.rt:26:18
 add-t20 : tie.Need-add-t20
 add-t20 c = search needs
 
--- src/keep.rt:13:1
 same-length : tie.Need-same-length
 same-length c = search needs
 
--- src/keep.rt:13:1
 returns-2 : tie.Need-returns-2
 returns-2 c = kept-written (c .before .before .before .before .before .before .before .before .before .before .before .before .before .before .before .pre) (c .before .before .before .before .before .before .before .before .before .before .before .before .if1 .left) (c .before .before .before .before .before .before .before .before .before .before .copy .ensures) (c .before .before .before .before .before .before .copy2 .ensures) (c .before .before .copy3 .ensures)
 

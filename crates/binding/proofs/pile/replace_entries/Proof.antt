@@ -14,60 +14,50 @@ Inv-loop arities room₀ part from n x by m to capacity end read₀ written₀ r
 abbrev μ-loop : tie.MeasureT-loop
 μ-loop arities room₀ part from n x by m to capacity end read₀ written₀ room read written = n - read
 
--- src/pile.rt:47:15
 add-end : tie.Need-add-end Inv-loop μ-loop
 add-end c = let P = c .before .before .pre .0 in omega arith
 
--- src/pile.rt:50:5
 loop-holds : tie.Need-loop-holds Inv-loop μ-loop
 loop-holds c = (none-passed _ _ _ (c .before .before .pre .0), refl)
 
--- src/pile.rt:51:18
 add-at : tie.Need-add-at Inv-loop μ-loop
 add-at c =
     let S = c .before .loop .inv .0 in
     let N = numbers S in
     omega (arith, c .before .before .before .before .pre .1)
 
--- src/pile.rt:52:21
 add-after : tie.Need-add-after Inv-loop μ-loop
 add-after c =
     let S = c .before .loop .inv .0 in
     let N = numbers S in
     omega (arith, c .before .before .before .before .pre .1)
 
--- src/pile.rt:53:41
 mul-end-of-term : tie.Need-mul-end-of-term Inv-loop μ-loop
 mul-end-of-term c =
     let S = c .before .loop .inv .0 in
     let N = numbers S in
     omega (arith, c .before .before .before .before .pre .1)
 
--- src/pile.rt:53:41
 sub-end-of-term : tie.Need-sub-end-of-term Inv-loop μ-loop
 sub-end-of-term c =
     let S = c .before .loop .inv .0 in
     let N = numbers S in
     omega (arith, c .before .before .before .before .pre .1)
 
--- src/pile.rt:53:41
 part-end-of-term-start : tie.Need-part-end-of-term-start Inv-loop μ-loop
 part-end-of-term-start c = search needs
 
--- src/pile.rt:53:41
 part-end-of-term-end : tie.Need-part-end-of-term-end Inv-loop μ-loop
 part-end-of-term-end c =
     let S = c .before .before .loop .inv .0 in
     let N = numbers S in
     omega (arith, c .before .before .before .before .before .pre .1)
 
--- src/pile.rt:53:20
 end-of-term-requires : tie.Need-end-of-term-requires Inv-loop μ-loop
 end-of-term-requires c κs =
     let N = numbers (c .before .before .before .loop .inv .0) in
     simp (length-take, length-drop) (omega (arith, c .before .before .before .before .before .before .pre .1))
 
--- src/pile.rt:53:20
 add-size : tie.Need-add-size Inv-loop μ-loop
 unfolding seg
 add-size c =
@@ -75,48 +65,40 @@ add-size c =
     let W = size-within (c .before .before .before .before .loop .inv .0) (c .before .before .before .loop-test .taken) (c .before .before .before .before .loop .inv .1) _ (c .end-of-term .ensures) in
     omega (arith, c .before .before .before .before .before .before .before .pre .1)
 
--- src/pile.rt:54:25
 mul-wanted : tie.Need-mul-wanted Inv-loop μ-loop
 mul-wanted c =
     let S = c .before .before .before .before .loop .inv .0 in
     let N = numbers S in
     omega (arith, c .before .before .before .before .before .before .before .pre .1)
 
--- src/pile.rt:54:25
 slice-read-wanted : tie.Need-slice-read-wanted Inv-loop μ-loop
 slice-read-wanted c =
     let S = c .before .before .before .before .before .loop .inv .0 in
     let N = numbers S in
     omega (arith, c .before .before .before .before .before .before .before .before .pre .1)
 
--- src/pile.rt:54:12
 wanted-requires : tie.Need-wanted-requires Inv-loop μ-loop
 wanted-requires c κs = search needs
 
--- src/pile.rt:55:59
 add-replace : tie.Need-add-replace Inv-loop μ-loop
 add-replace c =
     let S = c .before .before .before .before .before .before .before .before .loop .inv .0 in
     let N = numbers S in
     omega (arith, c .before .before .before .before .before .before .before .before .before .before .before .pre .1)
 
--- src/pile.rt:55:73
 sub-replace : tie.Need-sub-replace Inv-loop μ-loop
 sub-replace c =
     let S = c .before .before .before .before .before .before .before .before .loop .inv .0 in
     let N = numbers S in
     omega (arith, c .before .before .before .before .before .before .before .before .before .before .before .pre .1)
 
--- src/pile.rt:55:19
 replace-requires : tie.Need-replace-requires Inv-loop μ-loop
 unfolding seg
 replace-requires c κs = entry-parts (c .before .before .before .before .before .before .before .before .loop .inv .0) (c .before .before .before .before .before .before .before .loop-test .taken) (c .before .before .before .before .before .before .before .before .loop .inv .1) _ (c .before .before .before .before .end-of-term .ensures)
 
--- src/pile.rt:56:30
 enum-known-k : tie.Need-enum-known-k Inv-loop μ-loop
 enum-known-k c = search needs
 
--- src/pile.rt:57:21
 add-read : tie.Need-add-read Inv-loop μ-loop
 unfolding seg
 add-read c =
@@ -124,7 +106,6 @@ add-read c =
     let W = size-within (c .before .before .before .before .before .before .before .before .before .before .before .before .before .before .loop .inv .0) (c .before .before .before .before .before .before .before .before .before .before .before .before .before .loop-test .taken) (c .before .before .before .before .before .before .before .before .before .before .before .before .before .before .loop .inv .1) _ (c .before .before .before .before .before .before .before .before .before .before .end-of-term .ensures) in
     omega (arith, c .before .before .before .before .before .before .before .before .before .before .before .before .before .before .before .before .before .pre .1)
 
--- src/pile.rt:58:21
 add-written : tie.Need-add-written Inv-loop μ-loop
 unfolding seg
 add-written c =
@@ -132,7 +113,6 @@ add-written c =
     let N = numbers (entry-written (c .before .before .before .before .before .before .before .before .before .before .before .before .before .before .loop .inv .0) (c .before .before .before .before .before .before .before .before .before .before .before .before .before .loop-test .taken) (c .before .before .before .before .before .before .before .before .before .before .before .before .before .before .loop .inv .1) _ (c .before .before .before .before .before .before .before .before .before .before .end-of-term .ensures) (sym (c .before .before .before .before .before .before .before .before .wanted .ensures) ∙ c .before .before .before .before .before .before .before .if1 .taken) (r .ensures .0) (r .ensures .1) _ (c .before .k .given .1)) in
     omega (arith, c .before .before .before .before .before .before .before .before .before .before .before .before .before .before .before .before .before .pre .1)
 
--- src/pile.rt:50:5
 loop-less : tie.Need-loop-less Inv-loop μ-loop
 unfolding seg
 loop-less c =
@@ -140,29 +120,24 @@ loop-less c =
     let W = size-within (c .before .before .before .before .before .before .before .before .before .before .before .before .before .before .loop .inv .0) (c .before .before .before .before .before .before .before .before .before .before .before .before .before .loop-test .taken) (c .before .before .before .before .before .before .before .before .before .before .before .before .before .before .loop .inv .1) _ (c .before .before .before .before .before .before .before .before .before .before .end-of-term .ensures) in
     omega (arith, c .before .before .before .before .before .before .before .before .before .before .before .before .before .before .before .before .before .pre .1)
 
--- src/pile.rt:50:5
 loop-again : tie.Need-loop-again Inv-loop μ-loop
 unfolding seg
 loop-again c =
     let r = c .before .before .before .before .before .replace in
     (entry-written (c .before .before .before .before .before .before .before .before .before .before .before .before .before .before .loop .inv .0) (c .before .before .before .before .before .before .before .before .before .before .before .before .before .loop-test .taken) (c .before .before .before .before .before .before .before .before .before .before .before .before .before .before .loop .inv .1) _ (c .before .before .before .before .before .before .before .before .before .before .end-of-term .ensures) (sym (c .before .before .before .before .before .before .before .before .wanted .ensures) ∙ c .before .before .before .before .before .before .before .if1 .taken) (r .ensures .0) (r .ensures .1) _ (c .before .k .given .1), c .before .before .before .before .before .before .before .before .before .before .before .before .before .before .loop .inv .1)
 
--- src/pile.rt:61:21
 enum-told : tie.Need-enum-told Inv-loop μ-loop
 enum-told c = search needs
 
--- src/pile.rt:61:21
 same-length : tie.Need-same-length Inv-loop μ-loop
 same-length c = length-after (c .before .before .before .before .before .before .before .before .before .before .before .before .before .loop .inv .0) _ _ (c .before .before .before .before .replace .ensures .1)
 
--- src/pile.rt:61:21
 returns : tie.Need-returns Inv-loop μ-loop
 unfolding seg
 returns c =
     let r = c .before .before .before .before .replace in
     entry-full (c .before .before .before .before .before .before .before .before .before .before .before .before .before .loop .inv .0) (c .before .before .before .before .before .before .before .before .before .before .before .before .loop-test .taken) (c .before .before .before .before .before .before .before .before .before .before .before .before .before .loop .inv .1) _ (c .before .before .before .before .before .before .before .before .before .end-of-term .ensures) (sym (c .before .before .before .before .before .before .before .wanted .ensures) ∙ c .before .before .before .before .before .before .if1 .taken) (r .ensures .0) (r .ensures .1) (c .enum-told .given .1)
 
--- src/pile.rt:65:13
 add-read-2 : tie.Need-add-read-2 Inv-loop μ-loop
 unfolding seg
 add-read-2 c =
@@ -170,7 +145,6 @@ add-read-2 c =
     let W = size-within (c .before .before .before .before .before .before .before .loop .inv .0) (c .before .before .before .before .before .before .loop-test .taken) (c .before .before .before .before .before .before .before .loop .inv .1) _ (c .before .before .before .end-of-term .ensures) in
     omega (arith, c .before .before .before .before .before .before .before .before .before .before .pre .1)
 
--- src/pile.rt:50:5
 loop-less-2 : tie.Need-loop-less-2 Inv-loop μ-loop
 unfolding seg
 loop-less-2 c =
@@ -178,16 +152,13 @@ loop-less-2 c =
     let W = size-within (c .before .before .before .before .before .before .before .loop .inv .0) (c .before .before .before .before .before .before .loop-test .taken) (c .before .before .before .before .before .before .before .loop .inv .1) _ (c .before .before .before .end-of-term .ensures) in
     omega (arith, c .before .before .before .before .before .before .before .before .before .before .pre .1)
 
--- src/pile.rt:50:5
 loop-again-2 : tie.Need-loop-again-2 Inv-loop μ-loop
 unfolding seg
 loop-again-2 c = (entry-skipped (c .before .before .before .before .before .before .before .loop .inv .0) (c .before .before .before .before .before .before .loop-test .taken) (c .before .before .before .before .before .before .before .loop .inv .1) _ (c .before .before .before .end-of-term .ensures) (sym (c .before .wanted .ensures) ∙ c .if1 .left), c .before .before .before .before .before .before .before .loop .inv .1)
 
--- src/pile.rt:32:1
 same-length-2 : tie.Need-same-length-2 Inv-loop μ-loop
 same-length-2 c = long (c .before .loop .inv .0)
 
--- src/pile.rt:32:1
 returns-2 : tie.Need-returns-2 Inv-loop μ-loop
 returns-2 c = all-passed (c .before .loop .inv .0) (c .loop-test .left)
 

@@ -3,19 +3,15 @@ use borrow.Author.Needs.{needs}
 use Rattle.binding.proofs.pile.replace_others.Statement.{statement}
 use Rattle.binding.proofs.pile.replace_others.Tie as tie
 
--- src/pile.rt:145:9
 returns : tie.Need-returns
 returns c = none-written _ _ _ _ _ _ _ _ _ (c .if1 .taken)
 
--- src/pile.rt:147:5
 replace-part-requires : tie.Need-replace-part-requires
 replace-part-requires c κs = search needs
 
--- src/pile.rt:130:1
 same-length : tie.Need-same-length
 same-length c = search needs
 
--- src/pile.rt:130:1
 returns-2 : tie.Need-returns-2
 returns-2 c = search needs
 

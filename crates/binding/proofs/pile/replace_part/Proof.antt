@@ -3,75 +3,57 @@ use borrow.Author.Needs.{needs}
 use Rattle.binding.proofs.pile.replace_part.Statement.{statement}
 use Rattle.binding.proofs.pile.replace_part.Tie as tie
 
--- src/pile.rt:90:15
 add-end : tie.Need-add-end
 add-end c = search needs
 
--- src/pile.rt:91:15
 mul-is-in : tie.Need-mul-is-in
 mul-is-in c = search needs
 
--- src/pile.rt:91:15
 sub-is-in : tie.Need-sub-is-in
 sub-is-in c = search needs
 
--- src/pile.rt:91:15
 part-is-in-start : tie.Need-part-is-in-start
 part-is-in-start c = search needs
 
--- src/pile.rt:91:15
 part-is-in-end : tie.Need-part-is-in-end
 part-is-in-end c = search needs
 
--- src/pile.rt:91:9
 is-in-requires : tie.Need-is-in-requires
 is-in-requires c κs = search needs
 
--- src/pile.rt:94:17
 enum-told : tie.Need-enum-told
 enum-told c = search needs
 
--- src/pile.rt:94:17
 same-length : tie.Need-same-length
 same-length c = search needs
 
--- src/pile.rt:94:17
 returns : tie.Need-returns
 returns c = rw (c .enum-told .given .1) (absent-entries _ (c .before .before .before .before .before .before .before .before .pre .0) _ (c .before .before .before .is-in .ensures) (c .before .before .if1 .taken))
 
--- src/pile.rt:97:20
 enum-told-2 : tie.Need-enum-told-2
 enum-told-2 c = search needs
 
--- src/pile.rt:98:21
 same-length-2 : tie.Need-same-length-2
 same-length-2 c = search needs
 
--- src/pile.rt:98:21
 returns-2 : tie.Need-returns-2
 returns-2 c = rw (c .before .enum-told2 .given .1) (absent-full _ (c .before .before .before .before .before .before .before .before .before .pre .0) _ (c .before .before .before .before .is-in .ensures) (c .before .before .before .if1 .taken) (c .if2 .taken))
 
--- src/pile.rt:100:17
 copy-requires : tie.Need-copy-requires
 copy-requires c κs = whole-parts (c .before .before .before .before .before .before .before .before .before .before .pre .0) (c .before .if2 .left)
 
--- src/pile.rt:101:17
 same-length-3 : tie.Need-same-length-3
 same-length-3 c = search needs
 
--- src/pile.rt:101:17
 returns-3 : tie.Need-returns-3
 returns-3 c = rw (c .before .before .before .before .before .enum-told2 .given .1) (absent-others _ (c .before .before .before .before .before .before .before .before .before .before .before .before .before .pre .0) _ (c .before .before .before .before .before .before .before .before .is-in .ensures) (c .before .before .before .before .before .before .before .if1 .taken) (c .before .before .before .before .if2 .left) (c .before .before .copy .ensures))
 
--- src/pile.rt:105:5
 replace-entries-requires : tie.Need-replace-entries-requires
 replace-entries-requires c κs = search needs
 
--- src/pile.rt:75:1
 same-length-4 : tie.Need-same-length-4
 same-length-4 c = search needs
 
--- src/pile.rt:75:1
 returns-4 : tie.Need-returns-4
 returns-4 c = search needs
 

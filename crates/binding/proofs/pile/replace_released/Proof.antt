@@ -3,19 +3,15 @@ use borrow.Author.Needs.{needs}
 use Rattle.binding.proofs.pile.replace_released.Statement.{statement}
 use Rattle.binding.proofs.pile.replace_released.Tie as tie
 
--- src/pile.rt:124:9
 returns : tie.Need-returns
 returns c = none-written _ _ _ _ _ _ _ _ _ (c .if1 .taken)
 
--- src/pile.rt:126:5
 replace-part-requires : tie.Need-replace-part-requires
 replace-part-requires c κs = search needs
 
--- src/pile.rt:109:1
 same-length : tie.Need-same-length
 same-length c = search needs
 
--- src/pile.rt:109:1
 returns-2 : tie.Need-returns-2
 returns-2 c = search needs
 

@@ -3,20 +3,16 @@ use borrow.Author.Needs.{needs}
 use Rattle.binding.proofs.pile.wanted.Statement.{statement}
 use Rattle.binding.proofs.pile.wanted.Tie as tie
 
--- src/pile.rt:26:26
 enum-told : tie.Need-enum-told
 enum-told c = search needs
 
--- src/pile.rt:27:25
 enum-told-2 : tie.Need-enum-told-2
 enum-told-2 c = search needs
 
--- src/pile.rt:22:1
 returns : tie.Need-returns
 unfolding wants
 returns c = rw (c .enum-told .given .1)
 
--- src/pile.rt:22:1
 returns-2 : tie.Need-returns-2
 unfolding wants
 returns-2 c = rw (c .enum-told2 .given .1)

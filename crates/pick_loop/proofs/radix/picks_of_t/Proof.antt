@@ -3,15 +3,12 @@ use Rattle.pick_loop.proofs.Radices.{right-closed, right-opened}
 use Rattle.pick_loop.proofs.radix.picks_of_t.Statement.{statement}
 use Rattle.pick_loop.proofs.radix.picks_of_t.Tie as tie
 
--- src/pick.rt:30:58
 add-result : tie.Need-add-result
 add-result c = search needs
 
--- src/pick.rt:24:1
 returns : tie.Need-returns
 returns c = right-closed _ _ (c .match .keys1)
 
--- src/pick.rt:24:1
 returns-2 : tie.Need-returns-2
 returns-2 c = right-opened _ _ (c .match .keys2)
 

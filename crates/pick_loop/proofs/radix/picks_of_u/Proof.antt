@@ -3,15 +3,12 @@ use Rattle.pick_loop.proofs.Radices.{left-closed, left-opened}
 use Rattle.pick_loop.proofs.radix.picks_of_u.Statement.{statement}
 use Rattle.pick_loop.proofs.radix.picks_of_u.Tie as tie
 
--- src/pick.rt:41:57
 add-result : tie.Need-add-result
 add-result c = search needs
 
--- src/pick.rt:35:1
 returns : tie.Need-returns
 returns c = left-closed _ _ (c .match .keys1)
 
--- src/pick.rt:35:1
 returns-2 : tie.Need-returns-2
 returns-2 c = left-opened _ _ (c .match .keys2)
 

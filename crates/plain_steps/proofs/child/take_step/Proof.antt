@@ -8,55 +8,42 @@ use borrow.Author.Needs.{needs}
 use Rattle.plain_steps.proofs.child.take_step.Statement.{statement}
 use Rattle.plain_steps.proofs.child.take_step.Tie as tie
 
--- src/child.rt:32:28
 enum-told : tie.Need-enum-told
 enum-told c = search needs
 
--- src/child.rt:32:23
 keep-requires : tie.Need-keep-requires
 keep-requires c κs = drop-arm-parts (c .before .before .before .before .before .pre .here)
 
--- src/child.rt:34:17
 enum-told-2 : tie.Need-enum-told-2
 enum-told-2 c = search needs
 
--- src/child.rt:36:13
 finish-requires : tie.Need-finish-requires
 finish-requires c κs = bind-arm-parts (c .before .before .before .before .before .pre .here) (c .before .enum-told2 .given .1)
 
--- src/child.rt:38:39
 enum-told-3 : tie.Need-enum-told-3
 enum-told-3 c = search needs
 
--- src/child.rt:38:30
 postpone-requires : tie.Need-postpone-requires
 postpone-requires c κs = postpone-arm-parts (c .before .before .before .before .before .pre .here) (c .before .enum-told3 .given .1)
 
--- src/child.rt:40:24
 enum-told-4 : tie.Need-enum-told-4
 enum-told-4 c = search needs
 
--- src/child.rt:40:24
 add-body : tie.Need-add-body
 add-body c = search needs
 
--- src/child.rt:41:42
 mul-terms-after : tie.Need-mul-terms-after
 mul-terms-after c = search needs
 
--- src/child.rt:41:42
 slice-read-terms-after : tie.Need-slice-read-terms-after
 slice-read-terms-after c = search needs
 
--- src/child.rt:41:17
 terms-after-requires : tie.Need-terms-after-requires
 terms-after-requires c κs = search needs
 
--- src/child.rt:42:24
 add-left : tie.Need-add-left
 add-left c = search needs
 
--- src/child.rt:43:25
 add-other : tie.Need-add-other
 add-other c =
     let S = c .before .before .before .before .before .before .pre .here in
@@ -64,7 +51,6 @@ add-other c =
     let D = decompose-arm-parts S (c .before .before .enum-told4 .given .1) in
     omega (arith, D .pairs .right-within, D .pairs .small)
 
--- src/child.rt:43:25
 add-other-2 : tie.Need-add-other-2
 add-other-2 c =
     let S = c .before .before .before .before .before .before .pre .here in
@@ -72,71 +58,55 @@ add-other-2 c =
     let D = decompose-arm-parts S (c .before .before .enum-told4 .given .1) in
     omega (arith, D .pairs .right-within, D .pairs .small)
 
--- src/child.rt:44:53
 sub-decompose : tie.Need-sub-decompose
 sub-decompose c =
     let p = sides-positive (c .before .before .before .before .before .before .before .pre .here) in
     omega arith
 
--- src/child.rt:44:71
 sub-decompose-2 : tie.Need-sub-decompose-2
 sub-decompose-2 c = search needs
 
--- src/child.rt:44:71
 sub-decompose-3 : tie.Need-sub-decompose-3
 sub-decompose-3 c =
     let p = sides-positive (c .before .before .before .before .before .before .before .pre .here) in
     omega arith
 
--- src/child.rt:44:13
 decompose-requires : tie.Need-decompose-requires
 decompose-requires c κs = decompose-arm-parts (c .before .before .before .before .before .before .before .pre .here) (c .before .before .before .enum-told4 .given .1)
 
--- src/child.rt:46:27
 enum-told-5 : tie.Need-enum-told-5
 enum-told-5 c = search needs
 
--- src/child.rt:47:23
 enum-told-6 : tie.Need-enum-told-6
 enum-told-6 c = search needs
 
--- src/child.rt:14:1
 same-length : tie.Need-same-length
 same-length c = search needs
 
--- src/child.rt:14:1
 returns : tie.Need-returns
 returns c = record { taken = λ st e es node S o n. drop-arm S (c .before .before .before .before .enum-told .given .1) (c .before .before .keep .ensures) o; beside = λ st e es S. finished-beside (c .before .before .keep .ensures) }
 
--- src/child.rt:14:1
 same-length-2 : tie.Need-same-length-2
 same-length-2 c = search needs
 
--- src/child.rt:14:1
 returns-2 : tie.Need-returns-2
 returns-2 c = record { taken = λ st e es node S o n. bind-arm S (c .before .before .before .before .enum-told2 .given .1) (c .before .before .finish .ensures) o; beside = λ st e es S. finished-beside (c .before .before .finish .ensures) }
 
--- src/child.rt:14:1
 same-length-3 : tie.Need-same-length-3
 same-length-3 c = search needs
 
--- src/child.rt:14:1
 returns-3 : tie.Need-returns-3
 returns-3 c = record { taken = λ st e es node S o n. postpone-arm S (c .before .before .before .before .enum-told3 .given .1) (c .before .before .postpone .ensures) o; beside = λ st e es S. postpone-beside _ (omega (arith, S .held .rows .next-row)) (c .before .before .postpone .ensures) }
 
--- src/child.rt:14:1
 same-length-4 : tie.Need-same-length-4
 same-length-4 c = search needs
 
--- src/child.rt:14:1
 returns-4 : tie.Need-returns-4
 returns-4 c = record { taken = λ st e es node S o n. decompose-arm S (c .before .before .before .before .before .before .enum-told4 .given .1) (c .before .before .before .before .terms-after .ensures .0) (c .before .before .decompose .ensures) o; beside = λ st e es S. decompose-beside _ _ (decompose-arm-parts S (c .before .before .before .before .before .before .enum-told4 .given .1)) (c .before .before .decompose .ensures) }
 
--- src/child.rt:14:1
 returns-5 : tie.Need-returns-5
 returns-5 c = record { taken = λ st e es node S o n. absurd (n _ (c .enum-told5 .given .1)); beside = λ st e es S. beside-same }
 
--- src/child.rt:14:1
 returns-6 : tie.Need-returns-6
 returns-6 c = record { taken = λ st e es node S o n. dead-arm S (c .enum-told6 .given .1) o; beside = λ st e es S. beside-same }
 

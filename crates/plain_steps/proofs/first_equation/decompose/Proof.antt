@@ -4,23 +4,18 @@ use borrow.Author.Needs.{needs}
 use Rattle.plain_steps.proofs.first_equation.decompose.Statement.{statement}
 use Rattle.plain_steps.proofs.first_equation.decompose.Tie as tie
 
--- src/single.rt:103:65
 add-pair-all : tie.Need-add-pair-all
 add-pair-all c = search needs
 
--- src/single.rt:103:9
 pair-all-requires : tie.Need-pair-all-requires
 pair-all-requires c κs = search needs
 
--- src/single.rt:104:5
 keep-requires : tie.Need-keep-requires
 keep-requires c κs = decompose-parts (c .before .before .before .before .before .before .before .args .arities .now) (c .before .before .before .before .before .before .before .args .k) (c .before .before .before .before .before .before .before .pre) (c .before .before .before .pair-all .ensures .0) (c .before .before .before .pair-all .ensures .1)
 
--- src/single.rt:87:1
 same-length : tie.Need-same-length
 same-length c = search needs
 
--- src/single.rt:87:1
 returns : tie.Need-returns
 returns c = rw (arguments-written (c .before .before .before .before .before .before .before .before .before .before .args .arities .now) (c .before .before .before .before .before .before .before .before .before .before .args .k) (c .before .before .before .before .before .before .before .before .before .before .pre) (c .before .before .before .before .before .before .pair-all .ensures .0) (c .before .before .before .before .before .before .pair-all .ensures .1), c .before .before .before .before .before .before .pair-all .ensures .0) at (c .before .before .keep .ensures)
 

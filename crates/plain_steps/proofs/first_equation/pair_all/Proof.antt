@@ -10,57 +10,48 @@ Inv-loop arities room₀ k left n right m to i₀ l₀ r₀ room i l r = Pairing
 abbrev μ-loop : tie.MeasureT-loop
 μ-loop arities room₀ k left n right m to i₀ l₀ r₀ room i l r = k - i
 
--- src/single.rt:77:5
 loop-holds : tie.Need-loop-holds Inv-loop μ-loop
 loop-holds c = none-paired _ _ (c .before .before .pre)
 
--- src/single.rt:78:45
 add-pair-first : tie.Need-add-pair-first Inv-loop μ-loop
 add-pair-first c =
     let S = c .before .before .loop .inv in
     let P = pairing-room S in
     omega (arith, S .parts .left-within, S .parts .right-within)
 
--- src/single.rt:78:55
 sub-pair-first : tie.Need-sub-pair-first Inv-loop μ-loop
 sub-pair-first c =
     let S = c .before .before .loop .inv in
     let P = pairing-room S in
     omega (arith, S .parts .left-within, S .parts .right-within)
 
--- src/single.rt:78:62
 add-pair-first-2 : tie.Need-add-pair-first-2 Inv-loop μ-loop
 add-pair-first-2 c =
     let S = c .before .before .loop .inv in
     let P = pairing-room S in
     omega (arith, S .parts .left-within, S .parts .right-within)
 
--- src/single.rt:78:73
 sub-pair-first-2 : tie.Need-sub-pair-first-2 Inv-loop μ-loop
 sub-pair-first-2 c =
     let S = c .before .before .loop .inv in
     let P = pairing-room S in
     omega (arith, S .parts .left-within, S .parts .right-within)
 
--- src/single.rt:78:80
 add-pair-first-3 : tie.Need-add-pair-first-3 Inv-loop μ-loop
 add-pair-first-3 c =
     let S = c .before .before .loop .inv in
     let P = pairing-room S in
     omega (arith, S .parts .left-within, S .parts .right-within)
 
--- src/single.rt:78:80
 add-pair-first-4 : tie.Need-add-pair-first-4 Inv-loop μ-loop
 add-pair-first-4 c =
     let S = c .before .before .loop .inv in
     let P = pairing-room S in
     omega (arith, S .parts .left-within, S .parts .right-within)
 
--- src/single.rt:78:13
 pair-first-requires : tie.Need-pair-first-requires Inv-loop μ-loop
 pair-first-requires c κs = pair-parts (c .before .before .loop .inv)
 
--- src/single.rt:79:9
 add-l : tie.Need-add-l Inv-loop μ-loop
 add-l c =
     let S = c .before .before .before .before .before .before .loop .inv in
@@ -69,7 +60,6 @@ add-l c =
     let g = g-within S (c .before .before .before .before .before .loop-test .taken) (c .before .before .before .pair-first .ensures .0) (c .before .before .before .pair-first .ensures .1) in
     omega (arith, S .parts .left-within, S .parts .right-within)
 
--- src/single.rt:80:9
 add-r : tie.Need-add-r Inv-loop μ-loop
 add-r c =
     let S = c .before .before .before .before .before .before .before .loop .inv in
@@ -78,30 +68,24 @@ add-r c =
     let g = g-within S (c .before .before .before .before .before .before .loop-test .taken) (c .before .before .before .before .pair-first .ensures .0) (c .before .before .before .before .pair-first .ensures .1) in
     omega (arith, S .parts .left-within, S .parts .right-within)
 
--- src/single.rt:81:9
 add-i : tie.Need-add-i Inv-loop μ-loop
 add-i c = omega arith
 
--- src/single.rt:77:5
 loop-less : tie.Need-loop-less Inv-loop μ-loop
 loop-less c = omega arith
 
--- src/single.rt:77:5
 loop-again : tie.Need-loop-again Inv-loop μ-loop
 loop-again c = paired-more (c .before .before .before .before .before .before .before .loop .inv) (c .before .before .before .before .before .before .loop-test .taken) (c .before .before .before .before .pair-first .ensures .0) (c .before .before .before .before .pair-first .ensures .1) (c .before .before .before .before .pair-first .ensures .2)
 
--- src/single.rt:83:5
 add-result : tie.Need-add-result Inv-loop μ-loop
 add-result c =
     let S = c .before .loop .inv in
     let P = pairing-room S in
     omega (arith, S .left-passed, S .right-passed)
 
--- src/single.rt:60:1
 same-length : tie.Need-same-length Inv-loop μ-loop
 same-length c = pairing-long (c .before .loop .inv)
 
--- src/single.rt:60:1
 returns : tie.Need-returns Inv-loop μ-loop
 returns c = all-paired (c .before .loop .inv) (c .loop-test .left)
 

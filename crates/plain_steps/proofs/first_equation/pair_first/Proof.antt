@@ -5,73 +5,56 @@ use borrow.Author.Needs.{needs}
 use Rattle.plain_steps.proofs.first_equation.pair_first.Statement.{statement}
 use Rattle.plain_steps.proofs.first_equation.pair_first.Tie as tie
 
--- src/single.rt:50:17
 add-after : tie.Need-add-after
 add-after c = search needs
 
--- src/single.rt:51:16
 add-last : tie.Need-add-last
 add-last c = search needs
 
--- src/single.rt:52:34
 mul-end-of-term : tie.Need-mul-end-of-term
 mul-end-of-term c = search needs
 
--- src/single.rt:52:34
 sub-end-of-term : tie.Need-sub-end-of-term
 sub-end-of-term c = search needs
 
--- src/single.rt:52:34
 part-end-of-term-start : tie.Need-part-end-of-term-start
 part-end-of-term-start c = search needs
 
--- src/single.rt:52:34
 part-end-of-term-end : tie.Need-part-end-of-term-end
 part-end-of-term-end c = search needs
 
--- src/single.rt:52:9
 end-of-term-requires : tie.Need-end-of-term-requires
 end-of-term-requires c κs = search needs
 
--- src/single.rt:53:34
 mul-end-of-term-2 : tie.Need-mul-end-of-term-2
 mul-end-of-term-2 c = search needs
 
--- src/single.rt:53:34
 sub-end-of-term-2 : tie.Need-sub-end-of-term-2
 sub-end-of-term-2 c = search needs
 
--- src/single.rt:53:34
 part-end-of-term-start-2 : tie.Need-part-end-of-term-start-2
 part-end-of-term-start-2 c = search needs
 
--- src/single.rt:53:34
 part-end-of-term-end-2 : tie.Need-part-end-of-term-end-2
 part-end-of-term-end-2 c = search needs
 
--- src/single.rt:53:9
 end-of-term-requires-2 : tie.Need-end-of-term-requires-2
 end-of-term-requires-2 c κs = search needs
 
--- src/single.rt:54:5
 copy-requires : tie.Need-copy-requires
 copy-requires c κs = left-copy (c .before .before .before .before .before .before .before .before .before .args .arities .now) (c .before .before .before .before .before .before .before .before .before .pre) (lent-within (c .before .before .before .before .before .before .before .before .before .args .arities .now) (c .before .before .before .before .before .before .before .before .before .pre) _ _ (c .before .before .before .before .before .before .before .before .before .pre .left-within) (c .before .before .before .before .end-of-term .ensures))
 
--- src/single.rt:55:32
 add-copy : tie.Need-add-copy
 add-copy c =
     let h = (lent-within (c .before .before .before .before .before .before .before .before .before .before .before .before .before .args .arities .now) (c .before .before .before .before .before .before .before .before .before .before .before .before .before .pre) _ _ (c .before .before .before .before .before .before .before .before .before .before .before .before .before .pre .left-within) (c .before .before .before .before .before .before .before .before .end-of-term .ensures)) in
     omega (arith, c .before .before .before .before .before .before .before .before .before .before .before .before .before .pre .to-within)
 
--- src/single.rt:55:5
 copy-requires-2 : tie.Need-copy-requires-2
 copy-requires-2 c κs = right-copy (c .before .before .before .before .before .before .before .before .before .before .before .before .before .args .arities .now) (c .before .before .before .before .before .before .before .before .before .before .before .before .before .pre) (lent-within (c .before .before .before .before .before .before .before .before .before .before .before .before .before .args .arities .now) (c .before .before .before .before .before .before .before .before .before .before .before .before .before .pre) _ _ (c .before .before .before .before .before .before .before .before .before .before .before .before .before .pre .left-within) (c .before .before .before .before .before .before .before .before .end-of-term .ensures)) (lent-within (c .before .before .before .before .before .before .before .before .before .before .before .before .before .args .arities .now) (c .before .before .before .before .before .before .before .before .before .before .before .before .before .pre) _ _ (c .before .before .before .before .before .before .before .before .before .before .before .before .before .pre .right-within) (c .before .before .before .before .before .end-of-term2 .ensures)) (c .before .before .before .copy .ensures)
 
--- src/single.rt:46:1
 same-length : tie.Need-same-length
 same-length c = search needs
 
--- src/single.rt:46:1
 returns : tie.Need-returns
 returns c = (lent (c .before .before .before .before .before .before .before .before .before .before .before .before .before .before .before .before .args .arities .now) (c .before .before .before .before .before .before .before .before .before .before .before .before .before .before .before .before .pre) _ _ (c .before .before .before .before .before .before .before .before .before .before .before .end-of-term .ensures), lent (c .before .before .before .before .before .before .before .before .before .before .before .before .before .before .before .before .args .arities .now) (c .before .before .before .before .before .before .before .before .before .before .before .before .before .before .before .before .pre) _ _ (c .before .before .before .before .before .before .before .before .end-of-term2 .ensures), both-copied (c .before .before .before .before .before .before .before .before .before .before .before .before .before .before .before .before .args .arities .now) (c .before .before .before .before .before .before .before .before .before .before .before .before .before .before .before .before .pre) (lent-within (c .before .before .before .before .before .before .before .before .before .before .before .before .before .before .before .before .args .arities .now) (c .before .before .before .before .before .before .before .before .before .before .before .before .before .before .before .before .pre) _ _ (c .before .before .before .before .before .before .before .before .before .before .before .before .before .before .before .before .pre .left-within) (c .before .before .before .before .before .before .before .before .before .before .before .end-of-term .ensures)) (lent-within (c .before .before .before .before .before .before .before .before .before .before .before .before .before .before .before .before .args .arities .now) (c .before .before .before .before .before .before .before .before .before .before .before .before .before .before .before .before .pre) _ _ (c .before .before .before .before .before .before .before .before .before .before .before .before .before .before .before .before .pre .right-within) (c .before .before .before .before .before .before .before .before .end-of-term2 .ensures)) (c .before .before .before .before .before .before .copy .ensures) (c .before .before .copy2 .ensures))
 

@@ -13,64 +13,54 @@ Inv-loop arities room₀ from n x to end read₀ written₀ room read written = 
 abbrev μ-loop : tie.MeasureT-loop
 μ-loop arities room₀ from n x to end read₀ written₀ room read written = n - read
 
--- src/join.rt:17:15
 add-end : tie.Need-add-end Inv-loop μ-loop
 add-end c = omega (arith, c .before .before .pre .0 .from-within, c .before .before .pre .1)
 
--- src/join.rt:20:5
 loop-holds : tie.Need-loop-holds Inv-loop μ-loop
 loop-holds c = (none-gathered _ _ (c .before .before .pre .0), refl)
 
--- src/join.rt:21:18
 add-at : tie.Need-add-at Inv-loop μ-loop
 add-at c =
     let S = c .before .loop .inv .0 in
     let l = gathering-long S in
     omega (arith, S .parts .from-within, S .parts .to-within, S .fits, S .passed, c .before .before .before .before .pre .1)
 
--- src/join.rt:22:21
 add-after : tie.Need-add-after Inv-loop μ-loop
 add-after c =
     let S = c .before .loop .inv .0 in
     let l = gathering-long S in
     omega (arith, S .parts .from-within, S .parts .to-within, S .fits, S .passed, c .before .before .before .before .pre .1)
 
--- src/join.rt:23:41
 mul-end-of-term : tie.Need-mul-end-of-term Inv-loop μ-loop
 mul-end-of-term c =
     let S = c .before .loop .inv .0 in
     let l = gathering-long S in
     omega (arith, S .parts .from-within, S .parts .to-within, S .fits, S .passed, c .before .before .before .before .pre .1)
 
--- src/join.rt:23:41
 sub-end-of-term : tie.Need-sub-end-of-term Inv-loop μ-loop
 sub-end-of-term c =
     let S = c .before .loop .inv .0 in
     let l = gathering-long S in
     omega (arith, S .parts .from-within, S .parts .to-within, S .fits, S .passed, c .before .before .before .before .pre .1)
 
--- src/join.rt:23:41
 part-end-of-term-start : tie.Need-part-end-of-term-start Inv-loop μ-loop
 part-end-of-term-start c =
     let S = c .before .before .loop .inv .0 in
     let l = gathering-long S in
     omega (arith, S .parts .from-within, S .parts .to-within, S .fits, S .passed, c .before .before .before .before .before .pre .1)
 
--- src/join.rt:23:41
 part-end-of-term-end : tie.Need-part-end-of-term-end Inv-loop μ-loop
 part-end-of-term-end c =
     let S = c .before .before .loop .inv .0 in
     let l = gathering-long S in
     omega (arith, S .parts .from-within, S .parts .to-within, S .fits, S .passed, c .before .before .before .before .before .pre .1)
 
--- src/join.rt:23:20
 end-of-term-requires : tie.Need-end-of-term-requires Inv-loop μ-loop
 end-of-term-requires c κs =
     let S = c .before .before .before .loop .inv .0 in
     let l = gathering-long S in
     simp (length-take, length-drop) (omega (arith, S .parts .from-within, c .before .before .before .before .before .before .pre .1))
 
--- src/join.rt:23:20
 add-size : tie.Need-add-size Inv-loop μ-loop
 unfolding seg
 add-size c =
@@ -78,68 +68,58 @@ add-size c =
     let w = size-within (c .before .before .before .before .loop .inv .0) (c .before .before .before .loop-test .taken) (c .before .before .before .before .loop .inv .1) _ (c .end-of-term .ensures) in
     omega (arith, S .parts .from-within, c .before .before .before .before .before .before .before .pre .1)
 
--- src/join.rt:24:12
 mul-if1 : tie.Need-mul-if1 Inv-loop μ-loop
 mul-if1 c =
     let S = c .before .before .before .before .loop .inv .0 in
     let l = gathering-long S in
     omega (arith, S .parts .from-within, S .parts .to-within, S .fits, S .passed, c .before .before .before .before .before .before .before .pre .1)
 
--- src/join.rt:24:12
 slice-read-if1 : tie.Need-slice-read-if1 Inv-loop μ-loop
 slice-read-if1 c =
     let S = c .before .before .before .before .before .loop .inv .0 in
     let l = gathering-long S in
     omega (arith, S .parts .from-within, S .parts .to-within, S .fits, S .passed, c .before .before .before .before .before .before .before .before .pre .1)
 
--- src/join.rt:25:46
 mul-place-of-kernel : tie.Need-mul-place-of-kernel Inv-loop μ-loop
 mul-place-of-kernel c =
     let S = c .before .before .before .before .before .before .loop .inv .0 in
     let l = gathering-long S in
     omega (arith, S .parts .from-within, S .parts .to-within, S .fits, S .passed, c .before .before .before .before .before .before .before .before .before .pre .1)
 
--- src/join.rt:25:46
 sub-place-of-kernel : tie.Need-sub-place-of-kernel Inv-loop μ-loop
 sub-place-of-kernel c =
     let S = c .before .before .before .before .before .before .loop .inv .0 in
     let l = gathering-long S in
     omega (arith, S .parts .from-within, S .parts .to-within, S .fits, S .passed, c .before .before .before .before .before .before .before .before .before .pre .1)
 
--- src/join.rt:25:46
 part-place-of-kernel-start : tie.Need-part-place-of-kernel-start Inv-loop μ-loop
 part-place-of-kernel-start c =
     let S = c .before .before .before .before .before .before .before .loop .inv .0 in
     let l = gathering-long S in
     omega (arith, S .parts .from-within, S .parts .to-within, S .fits, S .passed, c .before .before .before .before .before .before .before .before .before .before .pre .1)
 
--- src/join.rt:25:46
 part-place-of-kernel-end : tie.Need-part-place-of-kernel-end Inv-loop μ-loop
 part-place-of-kernel-end c =
     let S = c .before .before .before .before .before .before .before .loop .inv .0 in
     let l = gathering-long S in
     omega (arith, S .parts .from-within, S .parts .to-within, S .fits, S .passed, c .before .before .before .before .before .before .before .before .before .before .pre .1)
 
--- src/join.rt:25:17
 place-of-kernel-requires : tie.Need-place-of-kernel-requires Inv-loop μ-loop
 place-of-kernel-requires c κs =
     let S = c .before .before .before .before .before .before .before .before .loop .inv .0 in
     let l = gathering-long S in
     simp (length-take, length-drop) (omega (arith, S .parts .from-within, c .before .before .before .before .before .before .before .before .before .before .before .pre .1))
 
--- src/join.rt:26:40
 add-copy : tie.Need-add-copy Inv-loop μ-loop
 add-copy c =
     let S = c .before .before .before .before .before .before .before .before .before .before .loop .inv .0 in
     let l = gathering-long S in
     omega (arith, S .parts .from-within, S .parts .to-within, S .fits, S .passed, c .before .before .before .before .before .before .before .before .before .before .before .before .before .pre .1)
 
--- src/join.rt:26:13
 copy-requires : tie.Need-copy-requires Inv-loop μ-loop
 unfolding seg
 copy-requires c κs = members-parts (c .before .before .before .before .before .before .before .before .before .before .loop .inv .0) (c .before .before .before .before .before .before .before .before .before .loop-test .taken) (c .before .before .before .before .before .before .before .before .before .before .loop .inv .1) _ (c .before .before .before .before .before .before .end-of-term .ensures) _ (c .before .place-of-kernel .ensures)
 
--- src/join.rt:27:13
 add-read : tie.Need-add-read Inv-loop μ-loop
 unfolding seg
 add-read c =
@@ -147,7 +127,6 @@ add-read c =
     let w = size-within (c .before .before .before .before .before .before .before .before .before .before .before .before .before .loop .inv .0) (c .before .before .before .before .before .before .before .before .before .before .before .before .loop-test .taken) (c .before .before .before .before .before .before .before .before .before .before .before .before .before .loop .inv .1) _ (c .before .before .before .before .before .before .before .before .before .end-of-term .ensures) in
     omega (arith, S .parts .from-within, c .before .before .before .before .before .before .before .before .before .before .before .before .before .before .before .before .pre .1)
 
--- src/join.rt:28:13
 add-written : tie.Need-add-written Inv-loop μ-loop
 unfolding seg
 add-written c =
@@ -156,7 +135,6 @@ add-written c =
     let k = kernel-within (c .before .before .before .before .before .before .before .before .before .before .before .before .before .loop .inv .0) (c .before .before .before .before .before .before .before .before .before .before .before .before .loop-test .taken) (c .before .before .before .before .before .before .before .before .before .before .before .before .before .loop .inv .1) _ (c .before .before .before .before .before .before .before .before .before .end-of-term .ensures) _ (c .before .before .before .before .place-of-kernel .ensures) in
     omega (arith, S .parts .from-within, S .fits, c .before .before .before .before .before .before .before .before .before .before .before .before .before .before .before .before .pre .1)
 
--- src/join.rt:20:5
 loop-less : tie.Need-loop-less Inv-loop μ-loop
 unfolding seg
 loop-less c =
@@ -164,12 +142,10 @@ loop-less c =
     let w = size-within (c .before .before .before .before .before .before .before .before .before .before .before .before .before .loop .inv .0) (c .before .before .before .before .before .before .before .before .before .before .before .before .loop-test .taken) (c .before .before .before .before .before .before .before .before .before .before .before .before .before .loop .inv .1) _ (c .before .before .before .before .before .before .before .before .before .end-of-term .ensures) in
     omega (arith, S .parts .from-within, c .before .before .before .before .before .before .before .before .before .before .before .before .before .before .before .before .pre .1)
 
--- src/join.rt:20:5
 loop-again : tie.Need-loop-again Inv-loop μ-loop
 unfolding seg
 loop-again c = (entry-gathered (c .before .before .before .before .before .before .before .before .before .before .before .before .before .loop .inv .0) (c .before .before .before .before .before .before .before .before .before .before .before .before .loop-test .taken) (c .before .before .before .before .before .before .before .before .before .before .before .before .before .loop .inv .1) _ (c .before .before .before .before .before .before .before .before .before .end-of-term .ensures) _ (c .before .before .before .before .place-of-kernel .ensures) (c .before .before .before .before .before .before .before .if1 .taken) (c .before .before .copy .ensures), c .before .before .before .before .before .before .before .before .before .before .before .before .before .loop .inv .1)
 
--- src/join.rt:30:13
 add-read-2 : tie.Need-add-read-2 Inv-loop μ-loop
 unfolding seg
 add-read-2 c =
@@ -177,7 +153,6 @@ add-read-2 c =
     let w = size-within (c .before .before .before .before .before .before .loop .inv .0) (c .before .before .before .before .before .loop-test .taken) (c .before .before .before .before .before .before .loop .inv .1) _ (c .before .before .end-of-term .ensures) in
     omega (arith, S .parts .from-within, c .before .before .before .before .before .before .before .before .before .pre .1)
 
--- src/join.rt:20:5
 loop-less-2 : tie.Need-loop-less-2 Inv-loop μ-loop
 unfolding seg
 loop-less-2 c =
@@ -185,16 +160,13 @@ loop-less-2 c =
     let w = size-within (c .before .before .before .before .before .before .loop .inv .0) (c .before .before .before .before .before .loop-test .taken) (c .before .before .before .before .before .before .loop .inv .1) _ (c .before .before .end-of-term .ensures) in
     omega (arith, S .parts .from-within, c .before .before .before .before .before .before .before .before .before .pre .1)
 
--- src/join.rt:20:5
 loop-again-2 : tie.Need-loop-again-2 Inv-loop μ-loop
 unfolding seg
 loop-again-2 c = (entry-passed (c .before .before .before .before .before .before .loop .inv .0) (c .before .before .before .before .before .loop-test .taken) (c .before .before .before .before .before .before .loop .inv .1) _ (c .before .before .end-of-term .ensures) (c .if1 .left), c .before .before .before .before .before .before .loop .inv .1)
 
--- src/join.rt:12:1
 same-length : tie.Need-same-length Inv-loop μ-loop
 same-length c = gathering-long (c .before .loop .inv .0)
 
--- src/join.rt:12:1
 returns : tie.Need-returns Inv-loop μ-loop
 returns c = all-gathered (c .before .loop .inv .0) (c .loop-test .left)
 

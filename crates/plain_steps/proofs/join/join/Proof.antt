@@ -7,106 +7,84 @@ use borrow.Author.Needs.{needs}
 use Rattle.plain_steps.proofs.join.join.Statement.{statement}
 use Rattle.plain_steps.proofs.join.join.Tie as tie
 
--- src/join.rt:52:13
 mul-x : tie.Need-mul-x
 mul-x c = search needs
 
--- src/join.rt:52:13
 slice-read-x : tie.Need-slice-read-x
 slice-read-x c = search needs
 
--- src/join.rt:53:9
 gather-requires : tie.Need-gather-requires
 gather-requires c κs = gather-parts (c .before .before .before .before .args .arities .now) (c .before .before .before .before .pre)
 
--- src/join.rt:54:16
 add-last : tie.Need-add-last
 add-last c =
     let m = m-within (c .before .before .before .before .before .before .before .args .arities .now) (c .before .before .before .before .before .before .before .pre) (c .before .before .gather .ensures .0) (c .before .before .gather .ensures .1) in
     let l = long (c .before .before .before .before .before .before .before .args .arities .now) (c .before .before .before .before .before .before .before .pre) (c .before .before .gather .ensures .0) (c .before .before .gather .ensures .1) in
     omega (arith, c .before .before .before .before .before .before .before .pre .parts .by-within, c .before .before .before .before .before .before .before .pre .parts .small)
 
--- src/join.rt:55:14
 mul-is-in : tie.Need-mul-is-in
 mul-is-in c = search needs
 
--- src/join.rt:55:14
 sub-is-in : tie.Need-sub-is-in
 sub-is-in c = search needs
 
--- src/join.rt:55:14
 part-is-in-start : tie.Need-part-is-in-start
 part-is-in-start c = search needs
 
--- src/join.rt:55:14
 part-is-in-end : tie.Need-part-is-in-end
 part-is-in-end c =
     let m = m-within (c .before .before .before .before .before .before .before .before .args .arities .now) (c .before .before .before .before .before .before .before .before .pre) (c .before .before .before .gather .ensures .0) (c .before .before .before .gather .ensures .1) in
     let l = long (c .before .before .before .before .before .before .before .before .args .arities .now) (c .before .before .before .before .before .before .before .before .pre) (c .before .before .before .gather .ensures .0) (c .before .before .before .gather .ensures .1) in
     omega (arith, c .before .before .before .before .before .before .before .before .pre .parts .by-within, c .before .before .before .before .before .before .before .before .pre .parts .small)
 
--- src/join.rt:55:8
 is-in-requires : tie.Need-is-in-requires
 is-in-requires c κs = search needs
 
--- src/join.rt:56:9
 same-length : tie.Need-same-length
 same-length c = search needs
 
--- src/join.rt:56:9
 returns : tie.Need-returns
 returns c = joined-dead (c .before .before .before .before .before .before .before .before .before .before .before .args .arities .now) (c .before .before .before .before .before .before .before .before .before .before .before .pre) (c .before .before .before .before .before .before .gather .ensures .0) (c .before .before .before .before .before .before .gather .ensures .1) (c .before .is-in .ensures) (c .if1 .taken)
 
--- src/join.rt:59:9
 same-length-2 : tie.Need-same-length-2
 same-length-2 c = search needs
 
--- src/join.rt:59:9
 returns-2 : tie.Need-returns-2
 returns-2 c = joined-names (c .before .before .before .before .before .before .before .before .before .before .before .before .args .arities .now) (c .before .before .before .before .before .before .before .before .before .before .before .before .pre) (c .before .before .before .before .before .before .before .gather .ensures .0) (c .before .before .before .before .before .before .before .gather .ensures .1) (c .before .before .is-in .ensures) (c .before .if1 .left) (c .if2 .taken)
 
--- src/join.rt:61:25
 cast-room : tie.Need-cast-room
 cast-room c = search needs
 
--- src/join.rt:61:18
 add-room : tie.Need-add-room
 add-room c = search needs
 
--- src/join.rt:61:5
 mul-room : tie.Need-mul-room
 mul-room c =
     let m = m-within (c .before .before .before .before .before .before .before .before .before .before .before .before .args .arities .now) (c .before .before .before .before .before .before .before .before .before .before .before .before .pre) (c .before .before .before .before .before .before .before .gather .ensures .0) (c .before .before .before .before .before .before .before .gather .ensures .1) in
     let l = long (c .before .before .before .before .before .before .before .before .before .before .before .before .args .arities .now) (c .before .before .before .before .before .before .before .before .before .before .before .before .pre) (c .before .before .before .before .before .before .before .gather .ensures .0) (c .before .before .before .before .before .before .before .gather .ensures .1) in
     omega (arith, c .before .before .before .before .before .before .before .before .before .before .before .before .pre .parts .by-within, c .before .before .before .before .before .before .before .before .before .before .before .before .pre .parts .small)
 
--- src/join.rt:61:5
 slice-write-room : tie.Need-slice-write-room
 slice-write-room c =
     let m = m-within (c .before .before .before .before .before .before .before .before .before .before .before .before .args .arities .now) (c .before .before .before .before .before .before .before .before .before .before .before .before .pre) (c .before .before .before .before .before .before .before .gather .ensures .0) (c .before .before .before .before .before .before .before .gather .ensures .1) in
     let l = long (c .before .before .before .before .before .before .before .before .before .before .before .before .args .arities .now) (c .before .before .before .before .before .before .before .before .before .before .before .before .pre) (c .before .before .before .before .before .before .before .gather .ensures .0) (c .before .before .before .before .before .before .before .gather .ensures .1) in
     omega (arith, c .before .before .before .before .before .before .before .before .before .before .before .before .pre .parts .by-within, c .before .before .before .before .before .before .before .before .before .before .before .before .pre .parts .small)
 
--- src/join.rt:62:48
 add-finish-pile : tie.Need-add-finish-pile
 add-finish-pile c =
     let m = m-within (c .before .before .before .before .before .before .before .before .before .before .before .before .before .args .arities .now) (c .before .before .before .before .before .before .before .before .before .before .before .before .before .pre) (c .before .before .before .before .before .before .before .before .gather .ensures .0) (c .before .before .before .before .before .before .before .before .gather .ensures .1) in
     let l = long (c .before .before .before .before .before .before .before .before .before .before .before .before .before .args .arities .now) (c .before .before .before .before .before .before .before .before .before .before .before .before .before .pre) (c .before .before .before .before .before .before .before .before .gather .ensures .0) (c .before .before .before .before .before .before .before .before .gather .ensures .1) in
     omega (arith, c .before .before .before .before .before .before .before .before .before .before .before .before .before .pre .parts .by-within, c .before .before .before .before .before .before .before .before .before .before .before .before .before .pre .parts .small)
 
--- src/join.rt:62:68
 add-finish-pile-2 : tie.Need-add-finish-pile-2
 add-finish-pile-2 c = search needs
 
--- src/join.rt:62:5
 finish-pile-requires : tie.Need-finish-pile-requires
 finish-pile-requires c κs = join-parts (c .before .before .before .before .before .before .before .before .before .before .before .before .before .args .arities .now) (c .before .before .before .before .before .before .before .before .before .before .before .before .before .pre) (c .before .before .before .before .before .before .before .before .gather .ensures .0) (c .before .before .before .before .before .before .before .before .gather .ensures .1) (c .before .if2 .left)
 
--- src/join.rt:39:1
 same-length-3 : tie.Need-same-length-3
 same-length-3 c = finished-length (c .before .before .finish-pile .ensures) ∙ value-long (c .before .before .before .before .before .before .before .before .before .before .before .before .before .before .before .before .args .arities .now) (c .before .before .before .before .before .before .before .before .before .before .before .before .before .before .before .before .pre) (c .before .before .before .before .before .before .before .before .before .before .before .gather .ensures .0) (c .before .before .before .before .before .before .before .before .before .before .before .gather .ensures .1)
 
--- src/join.rt:39:1
 returns-3 : tie.Need-returns-3
 returns-3 c = joined-live (c .before .before .before .before .before .before .before .before .before .before .before .before .before .before .before .before .args .arities .now) (c .before .before .before .before .before .before .before .before .before .before .before .before .before .before .before .before .pre) (c .before .before .before .before .before .before .before .before .before .before .before .gather .ensures .0) (c .before .before .before .before .before .before .before .before .before .before .before .gather .ensures .1) (c .before .before .before .before .before .before .is-in .ensures) (c .before .before .before .before .before .if1 .left) (c .before .before .before .before .if2 .left) (c .before .before .finish-pile .ensures)
 

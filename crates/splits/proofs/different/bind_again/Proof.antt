@@ -5,45 +5,35 @@ use borrow.Author.Needs.{needs}
 use Rattle.splits.proofs.different.bind_again.Statement.{statement}
 use Rattle.splits.proofs.different.bind_again.Tie as tie
 
--- src/different.rt:70:16
 add-last : tie.Need-add-last
 add-last c = search needs
 
--- src/different.rt:71:30
 mul-read-header : tie.Need-mul-read-header
 mul-read-header c = search needs
 
--- src/different.rt:71:30
 sub-read-header : tie.Need-sub-read-header
 sub-read-header c = search needs
 
--- src/different.rt:71:30
 part-read-header-start : tie.Need-part-read-header-start
 part-read-header-start c = search needs
 
--- src/different.rt:71:30
 part-read-header-end : tie.Need-part-read-header-end
 part-read-header-end c = search needs
 
--- src/different.rt:71:9
 read-header-requires : tie.Need-read-header-requires
 read-header-requires c κs = search needs
 
--- src/different.rt:72:9
 rest-of-requires : tie.Need-rest-of-requires
 unfolding seg
 rest-of-requires c κs = rest-parts (c .before .before .before .before .before .pre .again) (c .read-header .ensures)
 
--- src/different.rt:73:5
 finish-requires : tie.Need-finish-requires
 unfolding seg
 finish-requires c κs = again-parts (c .before .before .before .before .before .before .before .pre .again) (c .before .before .read-header .ensures) (c .before .rest-of .ensures)
 
--- src/different.rt:56:1
 same-length : tie.Need-same-length
 same-length c = search needs
 
--- src/different.rt:56:1
 returns : tie.Need-returns
 unfolding seg
 returns c = record { makes = λ st name value A. again-made A (c .before .before .before .before .before .read-header .ensures) (c .before .before .before .before .rest-of .ensures) (c .before .before .finish .ensures); kept = λ from scratch T. finished-elsewhere T (c .before .before .finish .ensures) }

@@ -4,91 +4,69 @@ use borrow.Author.Needs.{needs}
 use Rattle.splits.proofs.different.bind_twice.Statement.{statement}
 use Rattle.splits.proofs.different.bind_twice.Tie as tie
 
--- src/different.rt:112:18
 add-stride : tie.Need-add-stride
 add-stride c = search needs
 
--- src/different.rt:113:17
 add-first : tie.Need-add-first
 add-first c = search needs
 
--- src/different.rt:113:17
 add-first-2 : tie.Need-add-first-2
 add-first-2 c = search needs
 
--- src/different.rt:113:17
 add-first-3 : tie.Need-add-first-3
 add-first-3 c = search needs
 
--- src/different.rt:114:17
 add-value : tie.Need-add-value
 add-value c = search needs
 
--- src/different.rt:114:17
 add-value-2 : tie.Need-add-value-2
 add-value-2 c = search needs
 
--- src/different.rt:115:19
 add-between : tie.Need-add-between
 add-between c = search needs
 
--- src/different.rt:116:17
 add-named : tie.Need-add-named
 add-named c = search needs
 
--- src/different.rt:117:11
 bound-requires : tie.Need-bound-requires
 bound-requires c κs = first-parts (c .before .before .before .pre .parts)
 
--- src/different.rt:118:43
 enum-told : tie.Need-enum-told
 enum-told c = search needs
 
--- src/different.rt:118:23
 bind-again-requires : tie.Need-bind-again-requires
 bind-again-requires c κs = second-parts (c .before .before .before .before .before .before .before .before .before .pre .parts) (c .before .before .before .before .before .bound .ensures) (c .before .enum-told .given .1)
 
--- src/different.rt:119:24
 enum-told-2 : tie.Need-enum-told-2
 enum-told-2 c = search needs
 
--- src/different.rt:120:23
 enum-told-3 : tie.Need-enum-told-3
 enum-told-3 c = search needs
 
--- src/different.rt:121:24
 enum-told-4 : tie.Need-enum-told-4
 enum-told-4 c = search needs
 
--- src/different.rt:94:1
 same-length : tie.Need-same-length
 same-length c = search needs
 
--- src/different.rt:94:1
 returns : tie.Need-returns
 returns c = record { makes = λ p s r D. twice-made D (c .before .before .before .before .before .before .before .before .bound .ensures) (c .before .before .before .before .enum-told .given .1) (c .before .before .bind-again .ensures); kept = twice-kept (c .before .before .before .before .before .before .before .before .before .before .before .before .pre .parts) (c .before .before .before .before .before .before .before .before .bound .ensures) (c .before .before .bind-again .ensures) }
 
--- src/different.rt:94:1
 same-length-2 : tie.Need-same-length-2
 same-length-2 c = search needs
 
--- src/different.rt:94:1
 returns-2 : tie.Need-returns-2
 returns-2 c = record { makes = λ p s r D. twice-large D (c .before .before .before .before .bound .ensures) (not-large (c .enum-told2 .given .1)); kept = c .before .before .before .before .bound .ensures .kept }
 
--- src/different.rt:94:1
 same-length-3 : tie.Need-same-length-3
 same-length-3 c = search needs
 
--- src/different.rt:94:1
 returns-3 : tie.Need-returns-3
 returns-3 c = record { makes = λ p s r D. twice-large D (c .before .before .before .before .bound .ensures) (not-dead (c .enum-told3 .given .1)); kept = c .before .before .before .before .bound .ensures .kept }
 
--- src/different.rt:94:1
 same-length-4 : tie.Need-same-length-4
 same-length-4 c = search needs
 
--- src/different.rt:94:1
 returns-4 : tie.Need-returns-4
 returns-4 c = record { makes = λ p s r D. twice-large D (c .before .before .before .before .bound .ensures) (not-names (c .enum-told4 .given .1)); kept = c .before .before .before .before .bound .ensures .kept }
 

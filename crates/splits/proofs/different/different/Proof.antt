@@ -8,134 +8,102 @@ use borrow.Author.Needs.{needs}
 use Rattle.splits.proofs.different.different.Statement.{statement}
 use Rattle.splits.proofs.different.different.Tie as tie
 
--- src/different.rt:169:18
 add-stride : tie.Need-add-stride
 add-stride c = search needs
 
--- src/different.rt:170:17
 add-first : tie.Need-add-first
 add-first c = search needs
 
--- src/different.rt:170:17
 add-first-2 : tie.Need-add-first-2
 add-first-2 c = search needs
 
--- src/different.rt:170:17
 add-first-3 : tie.Need-add-first-3
 add-first-3 c = search needs
 
--- src/different.rt:171:18
 add-second : tie.Need-add-second
 add-second c = search needs
 
--- src/different.rt:172:18
 add-s : tie.Need-add-s
 add-s c = search needs
 
--- src/different.rt:172:18
 add-s-2 : tie.Need-add-s-2
 add-s-2 c = let N = numbers (c .before .before .before .pre .due .opened) in omega arith
 
--- src/different.rt:172:13
 mul-s : tie.Need-mul-s
 mul-s c = let N = numbers (c .before .before .before .pre .due .opened) in omega arith
 
--- src/different.rt:172:13
 slice-read-s : tie.Need-slice-read-s
 slice-read-s c = let N = numbers (c .before .before .before .before .pre .due .opened) in omega arith
 
--- src/different.rt:173:18
 add-r : tie.Need-add-r
 add-r c = search needs
 
--- src/different.rt:173:18
 add-r-2 : tie.Need-add-r-2
 add-r-2 c = let N = numbers (c .before .before .before .before .before .pre .due .opened) in omega arith
 
--- src/different.rt:173:13
 mul-r : tie.Need-mul-r
 mul-r c = let N = numbers (c .before .before .before .before .before .pre .due .opened) in omega arith
 
--- src/different.rt:173:13
 slice-read-r : tie.Need-slice-read-r
 slice-read-r c = let N = numbers (c .before .before .before .before .before .before .pre .due .opened) in omega arith
 
--- src/different.rt:174:9
 lay-joined-requires : tie.Need-lay-joined-requires
 lay-joined-requires c κs = search needs
 
--- src/different.rt:175:13
 add-u : tie.Need-add-u
 add-u c = let N = numbers (c .before .before .before .before .before .before .before .before .before .before .before .pre .due .opened) in let J = joined-within (c .before .before .before .before .before .before .before .before .before .before .before .pre .due) (c .before .before .before .before .before .before .before .before .before .before .before .pre .kind) (c .before .before .before .lay-joined .ensures) in omega (arith, J .0, J .1, J .2)
 
--- src/different.rt:176:13
 add-t : tie.Need-add-t
 add-t c = let N = numbers (c .before .before .before .before .before .before .before .before .before .before .before .before .pre .due .opened) in let J = joined-within (c .before .before .before .before .before .before .before .before .before .before .before .before .pre .due) (c .before .before .before .before .before .before .before .before .before .before .before .before .pre .kind) (c .before .before .before .before .lay-joined .ensures) in omega (arith, J .0, J .1, J .2)
 
--- src/different.rt:177:16
 mul-crosses : tie.Need-mul-crosses
 mul-crosses c = search needs
 
--- src/different.rt:177:16
 sub-crosses : tie.Need-sub-crosses
 sub-crosses c = search needs
 
--- src/different.rt:177:16
 part-crosses-start : tie.Need-part-crosses-start
 part-crosses-start c = search needs
 
--- src/different.rt:177:16
 part-crosses-end : tie.Need-part-crosses-end
 part-crosses-end c = let N = numbers (c .before .before .before .before .before .before .before .before .before .before .before .before .before .pre .due .opened) in let J = joined-within (c .before .before .before .before .before .before .before .before .before .before .before .before .before .pre .due) (c .before .before .before .before .before .before .before .before .before .before .before .before .before .pre .kind) (c .before .before .before .before .before .lay-joined .ensures) in omega (arith, J .0, J .1, J .2)
 
--- src/different.rt:177:33
 mul-crosses-2 : tie.Need-mul-crosses-2
 mul-crosses-2 c = search needs
 
--- src/different.rt:177:33
 sub-crosses-2 : tie.Need-sub-crosses-2
 sub-crosses-2 c = search needs
 
--- src/different.rt:177:33
 part-crosses-start-2 : tie.Need-part-crosses-start-2
 part-crosses-start-2 c = search needs
 
--- src/different.rt:177:33
 part-crosses-end-2 : tie.Need-part-crosses-end-2
 part-crosses-end-2 c = let N = numbers (c .before .before .before .before .before .before .before .before .before .before .before .before .before .before .pre .due .opened) in let J = joined-within (c .before .before .before .before .before .before .before .before .before .before .before .before .before .before .pre .due) (c .before .before .before .before .before .before .before .before .before .before .before .before .before .before .pre .kind) (c .before .before .before .before .before .before .lay-joined .ensures) in omega (arith, J .0, J .1, J .2)
 
--- src/different.rt:177:8
 crosses-requires : tie.Need-crosses-requires
 crosses-requires c κs = search needs
 
--- src/different.rt:178:9
 same-length : tie.Need-same-length
 same-length c = search needs
 
--- src/different.rt:178:9
 returns : tie.Need-returns
 unfolding seg
 returns c = record { makes = λ p D k. different-dead D k (c .before .before .before .before .before .before .before .before .before .lay-joined .ensures) refl refl (c .before .crosses .ensures) (c .if1 .taken); kept = λ p D k. joined-elsewhere D k (c .before .before .before .before .before .before .before .before .before .lay-joined .ensures) }
 
--- src/different.rt:181:9
 same-length-2 : tie.Need-same-length-2
 same-length-2 c = search needs
 
--- src/different.rt:181:9
 returns-2 : tie.Need-returns-2
 unfolding seg
 returns-2 c = record { makes = λ p D k. different-names D k (c .before .before .before .before .before .before .before .before .before .before .lay-joined .ensures) refl refl (c .before .before .crosses .ensures) (c .before .if1 .left) (c .if2 .taken); kept = λ p D k. joined-elsewhere D k (c .before .before .before .before .before .before .before .before .before .before .lay-joined .ensures) }
 
--- src/different.rt:183:5
 renew-requires : tie.Need-renew-requires
 unfolding seg
 renew-requires c κs = different-parts (c .before .before .before .before .before .before .before .before .before .before .before .before .before .before .before .before .before .before .before .pre .due) (c .before .before .before .before .before .before .before .before .before .before .before .before .before .before .before .before .before .before .before .pre .kind) (c .before .before .before .before .before .before .before .before .before .before .before .lay-joined .ensures) refl refl (c .before .before .before .crosses .ensures) (c .before .before .if1 .left) (c .before .if2 .left)
 
--- src/different.rt:155:1
 same-length-3 : tie.Need-same-length-3
 same-length-3 c = search needs
 
--- src/different.rt:155:1
 returns-3 : tie.Need-returns-3
 unfolding seg
 returns-3 c = record { makes = λ p D k. different-made D k (c .before .before .before .before .before .before .before .before .before .before .before .before .before .before .lay-joined .ensures) refl refl (c .before .before .before .before .before .before .crosses .ensures) (c .before .before .before .before .before .if1 .left) (c .before .before .before .before .if2 .left) (c .before .before .renew .ensures); kept = λ p D k. elsewhere-next (joined-elsewhere D k (c .before .before .before .before .before .before .before .before .before .before .before .before .before .before .lay-joined .ensures)) (c .before .before .renew .ensures .kept) }

@@ -4,39 +4,30 @@ use borrow.Author.Needs.{needs}
 use Rattle.splits.proofs.different.renew.Statement.{statement}
 use Rattle.splits.proofs.different.renew.Tie as tie
 
--- src/different.rt:145:13
 add-u : tie.Need-add-u
 add-u c = search needs
 
--- src/different.rt:146:11
 share-requires : tie.Need-share-requires
 share-requires c κs = search needs
 
--- src/different.rt:147:22
 enum-known-m : tie.Need-enum-known-m
 enum-known-m c = search needs
 
--- src/different.rt:148:13
 bind-twice-requires : tie.Need-bind-twice-requires
 bind-twice-requires c κs = renew-parts (c .before .before .before .before .before .before .before .before .before .before .before .pre .parts) (c .before .before .before .before .before .before .share .ensures) _ (c .before .before .m .given .1)
 
--- src/different.rt:150:25
 enum-told : tie.Need-enum-told
 enum-told c = search needs
 
--- src/different.rt:128:1
 same-length : tie.Need-same-length
 same-length c = search needs
 
--- src/different.rt:128:1
 returns : tie.Need-returns
 returns c = record { makes = λ l₀ p s r R. renew-made R (c .before .before .before .before .before .before .before .before .before .share .ensures) _ (c .before .before .before .before .before .m .given .1) (c .before .before .bind-twice .ensures); kept = elsewhere-next (share-elsewhere (c .before .before .before .before .before .before .before .before .before .before .before .before .before .before .pre .parts) (c .before .before .before .before .before .before .before .before .before .share .ensures)) (c .before .before .bind-twice .ensures .kept) }
 
--- src/different.rt:128:1
 same-length-2 : tie.Need-same-length-2
 same-length-2 c = search needs
 
--- src/different.rt:128:1
 returns-2 : tie.Need-returns-2
 returns-2 c = record { makes = λ l₀ p s r R. renew-large R (c .before .before .before .before .share .ensures) (c .enum-told .given .1); kept = share-elsewhere (c .before .before .before .before .before .before .before .before .before .pre .parts) (c .before .before .before .before .share .ensures) }
 

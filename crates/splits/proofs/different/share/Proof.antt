@@ -4,79 +4,60 @@ use borrow.Author.Needs.{needs}
 use Rattle.splits.proofs.different.share.Statement.{statement}
 use Rattle.splits.proofs.different.share.Tie as tie
 
--- src/different.rt:83:18
 add-stride : tie.Need-add-stride
 add-stride c = search needs
 
--- src/different.rt:84:17
 add-first : tie.Need-add-first
 add-first c = search needs
 
--- src/different.rt:84:17
 add-first-2 : tie.Need-add-first-2
 add-first-2 c = search needs
 
--- src/different.rt:84:17
 add-first-3 : tie.Need-add-first-3
 add-first-3 c = search needs
 
--- src/different.rt:85:18
 add-second : tie.Need-add-second
 add-second c = search needs
 
--- src/different.rt:86:17
 add-value : tie.Need-add-value
 add-value c = search needs
 
--- src/different.rt:87:16
 cast-word : tie.Need-cast-word
 cast-word c = search needs
 
--- src/different.rt:87:17
 add-word : tie.Need-add-word
 add-word c = search needs
 
--- src/different.rt:88:10
 add-room : tie.Need-add-room
 add-room c = search needs
 
--- src/different.rt:88:5
 mul-room : tie.Need-mul-room
 mul-room c = search needs
 
--- src/different.rt:88:5
 slice-write-room : tie.Need-slice-write-room
 slice-write-room c = search needs
 
--- src/different.rt:89:10
 add-room-2 : tie.Need-add-room-2
 add-room-2 c = search needs
 
--- src/different.rt:89:5
 mul-room-2 : tie.Need-mul-room-2
 mul-room-2 c = search needs
 
--- src/different.rt:89:5
 slice-write-room-2 : tie.Need-slice-write-room-2
 slice-write-room-2 c = omega (arith, first-long _ _ _ _ _ (c .before .before .before .pre), c .before .before .before .pre .space, c .before .before .before .pre .u-within, c .before .before .before .pre .t-within, c .before .before .before .pre .few)
 
--- src/different.rt:90:33
 add-replace : tie.Need-add-replace
 add-replace c = search needs
 
--- src/different.rt:90:57
 add-replace-2 : tie.Need-add-replace-2
 add-replace-2 c = search needs
 
--- src/different.rt:90:5
 replace-requires : tie.Need-replace-requires
 replace-requires c κs = value-parts _ _ _ _ _ (c .before .before .before .before .before .before .pre)
 
--- src/different.rt:79:1
 same-length : tie.Need-same-length
 same-length c = share-long _ _ _ _ _ (c .before .before .before .before .before .before .before .before .before .pre) _ (c .before .before .replace .ensures .1)
 
--- src/different.rt:79:1
 returns : tie.Need-returns
 returns c = record { shared = λ l₀ p s H e h. values-shared _ _ _ _ _ (c .before .before .before .before .before .before .before .before .before .pre) H e h (c .before .before .replace .ensures .0) (c .before .before .replace .ensures .1) }
 

@@ -6,115 +6,87 @@ use borrow.Author.Needs.{needs}
 use Rattle.splits.proofs.nothing_bound.lay_entry.Statement.{statement}
 use Rattle.splits.proofs.nothing_bound.lay_entry.Tie as tie
 
--- src/kept.rt:69:18
 add-stride : tie.Need-add-stride
 add-stride c = search needs
 
--- src/kept.rt:70:14
 add-us : tie.Need-add-us
 add-us c = search needs
 
--- src/kept.rt:71:17
 add-picks : tie.Need-add-picks
 add-picks c = search needs
 
--- src/kept.rt:72:17
 add-value : tie.Need-add-value
 add-value c = search needs
 
--- src/kept.rt:73:16
 add-body : tie.Need-add-body
 add-body c = search needs
 
--- src/kept.rt:76:18
 add-x : tie.Need-add-x
 add-x c = let N = numbers (c .before .before .pre .opened) in omega arith
 
--- src/kept.rt:76:13
 mul-x : tie.Need-mul-x
 mul-x c = let N = numbers (c .before .before .pre .opened) in omega arith
 
--- src/kept.rt:76:13
 slice-read-x : tie.Need-slice-read-x
 slice-read-x c = let N = numbers (c .before .before .before .pre .opened) in omega arith
 
--- src/kept.rt:77:5
 mul-room : tie.Need-mul-room
 mul-room c = search needs
 
--- src/kept.rt:77:5
 slice-write-room : tie.Need-slice-write-room
 slice-write-room c = search needs
 
--- src/kept.rt:78:60
 add-tail-members : tie.Need-add-tail-members
 add-tail-members c = search needs
 
--- src/kept.rt:78:9
 tail-members-requires : tie.Need-tail-members-requires
 tail-members-requires c κs = t-parts (c .before .before .before .before .pre .opened) _
 
--- src/kept.rt:79:42
 add-tail-members-2 : tie.Need-add-tail-members-2
 add-tail-members-2 c = let N = numbers (c .before .before .before .before .before .before .before .before .pre .opened) in let k = k-within (c .before .before .before .before .before .before .before .before .pre .opened) _ (c .before .before .before .tail-members .ensures .0) (c .before .before .before .tail-members .ensures .1) in omega arith
 
--- src/kept.rt:79:59
 add-tail-members-3 : tie.Need-add-tail-members-3
 add-tail-members-3 c = search needs
 
--- src/kept.rt:79:59
 add-tail-members-4 : tie.Need-add-tail-members-4
 add-tail-members-4 c = let N = numbers (c .before .before .before .before .before .before .before .before .pre .opened) in let k = k-within (c .before .before .before .before .before .before .before .before .pre .opened) _ (c .before .before .before .tail-members .ensures .0) (c .before .before .before .tail-members .ensures .1) in omega arith
 
--- src/kept.rt:79:9
 tail-members-requires-2 : tie.Need-tail-members-requires-2
 tail-members-requires-2 c κs = u-parts (c .before .before .before .before .before .before .before .before .pre .opened) _ (c .before .before .before .tail-members .ensures .0) (c .before .before .before .tail-members .ensures .1)
 
--- src/kept.rt:80:10
 add-room : tie.Need-add-room
 add-room c = search needs
 
--- src/kept.rt:80:10
 add-room-2 : tie.Need-add-room-2
 add-room-2 c = let N = numbers (c .before .before .before .before .before .before .before .before .before .before .before .pre .opened) in let k = k-within (c .before .before .before .before .before .before .before .before .before .before .before .pre .opened) _ (c .before .before .before .before .before .before .tail-members .ensures .0) (c .before .before .before .before .before .before .tail-members .ensures .1) in let j = j-within (c .before .before .before .before .before .before .before .before .before .before .before .pre .opened) _ (c .before .before .before .before .before .before .tail-members .ensures .0) (c .before .before .before .before .before .before .tail-members .ensures .1) (c .before .before .tail-members2 .ensures .0) (c .before .before .tail-members2 .ensures .1) in let l = long (c .before .before .before .before .before .before .before .before .before .before .before .pre .opened) _ (c .before .before .before .before .before .before .tail-members .ensures .0) (c .before .before .before .before .before .before .tail-members .ensures .1) (c .before .before .tail-members2 .ensures .0) (c .before .before .tail-members2 .ensures .1) in omega arith
 
--- src/kept.rt:80:10
 add-room-3 : tie.Need-add-room-3
 add-room-3 c = let N = numbers (c .before .before .before .before .before .before .before .before .before .before .before .pre .opened) in let k = k-within (c .before .before .before .before .before .before .before .before .before .before .before .pre .opened) _ (c .before .before .before .before .before .before .tail-members .ensures .0) (c .before .before .before .before .before .before .tail-members .ensures .1) in let j = j-within (c .before .before .before .before .before .before .before .before .before .before .before .pre .opened) _ (c .before .before .before .before .before .before .tail-members .ensures .0) (c .before .before .before .before .before .before .tail-members .ensures .1) (c .before .before .tail-members2 .ensures .0) (c .before .before .tail-members2 .ensures .1) in let l = long (c .before .before .before .before .before .before .before .before .before .before .before .pre .opened) _ (c .before .before .before .before .before .before .tail-members .ensures .0) (c .before .before .before .before .before .before .tail-members .ensures .1) (c .before .before .tail-members2 .ensures .0) (c .before .before .tail-members2 .ensures .1) in omega arith
 
--- src/kept.rt:80:5
 mul-room-2 : tie.Need-mul-room-2
 mul-room-2 c = let N = numbers (c .before .before .before .before .before .before .before .before .before .before .before .pre .opened) in let k = k-within (c .before .before .before .before .before .before .before .before .before .before .before .pre .opened) _ (c .before .before .before .before .before .before .tail-members .ensures .0) (c .before .before .before .before .before .before .tail-members .ensures .1) in let j = j-within (c .before .before .before .before .before .before .before .before .before .before .before .pre .opened) _ (c .before .before .before .before .before .before .tail-members .ensures .0) (c .before .before .before .before .before .before .tail-members .ensures .1) (c .before .before .tail-members2 .ensures .0) (c .before .before .tail-members2 .ensures .1) in let l = long (c .before .before .before .before .before .before .before .before .before .before .before .pre .opened) _ (c .before .before .before .before .before .before .tail-members .ensures .0) (c .before .before .before .before .before .before .tail-members .ensures .1) (c .before .before .tail-members2 .ensures .0) (c .before .before .tail-members2 .ensures .1) in omega arith
 
--- src/kept.rt:80:5
 slice-write-room-2 : tie.Need-slice-write-room-2
 slice-write-room-2 c = let N = numbers (c .before .before .before .before .before .before .before .before .before .before .before .pre .opened) in let k = k-within (c .before .before .before .before .before .before .before .before .before .before .before .pre .opened) _ (c .before .before .before .before .before .before .tail-members .ensures .0) (c .before .before .before .before .before .before .tail-members .ensures .1) in let j = j-within (c .before .before .before .before .before .before .before .before .before .before .before .pre .opened) _ (c .before .before .before .before .before .before .tail-members .ensures .0) (c .before .before .before .before .before .before .tail-members .ensures .1) (c .before .before .tail-members2 .ensures .0) (c .before .before .tail-members2 .ensures .1) in let l = long (c .before .before .before .before .before .before .before .before .before .before .before .pre .opened) _ (c .before .before .before .before .before .before .tail-members .ensures .0) (c .before .before .before .before .before .before .tail-members .ensures .1) (c .before .before .tail-members2 .ensures .0) (c .before .before .tail-members2 .ensures .1) in omega arith
 
--- src/kept.rt:81:8
 add-if1 : tie.Need-add-if1
 add-if1 c = let N = numbers (c .before .before .before .before .before .before .before .before .before .before .before .pre .opened) in let k = k-within (c .before .before .before .before .before .before .before .before .before .before .before .pre .opened) _ (c .before .before .before .before .before .before .tail-members .ensures .0) (c .before .before .before .before .before .before .tail-members .ensures .1) in let j = j-within (c .before .before .before .before .before .before .before .before .before .before .before .pre .opened) _ (c .before .before .before .before .before .before .tail-members .ensures .0) (c .before .before .before .before .before .before .tail-members .ensures .1) (c .before .before .tail-members2 .ensures .0) (c .before .before .tail-members2 .ensures .1) in let l = long (c .before .before .before .before .before .before .before .before .before .before .before .pre .opened) _ (c .before .before .before .before .before .before .tail-members .ensures .0) (c .before .before .before .before .before .before .tail-members .ensures .1) (c .before .before .tail-members2 .ensures .0) (c .before .before .tail-members2 .ensures .1) in omega arith
 
--- src/kept.rt:82:9
 same-length : tie.Need-same-length
 same-length c = let l = long (c .before .before .before .before .before .before .before .before .before .before .before .before .pre .opened) _ (c .before .before .before .before .before .before .before .tail-members .ensures .0) (c .before .before .before .before .before .before .before .tail-members .ensures .1) (c .before .before .before .tail-members2 .ensures .0) (c .before .before .before .tail-members2 .ensures .1) in search needs
 
--- src/kept.rt:82:9
 returns : tie.Need-returns
 returns c = record { laid = λ arities rest next p S. no-entry S _ (c .before .before .before .before .before .before .before .tail-members .ensures .0) (c .before .before .before .before .before .before .before .tail-members .ensures .1) (c .before .before .before .tail-members2 .ensures .0) (c .before .before .before .tail-members2 .ensures .1) (c .if1 .taken) }
 
--- src/kept.rt:84:5
 add-result : tie.Need-add-result
 add-result c = let N = numbers (c .before .before .before .before .before .before .before .before .before .before .before .before .pre .opened) in let k = k-within (c .before .before .before .before .before .before .before .before .before .before .before .before .pre .opened) _ (c .before .before .before .before .before .before .before .tail-members .ensures .0) (c .before .before .before .before .before .before .before .tail-members .ensures .1) in let j = j-within (c .before .before .before .before .before .before .before .before .before .before .before .before .pre .opened) _ (c .before .before .before .before .before .before .before .tail-members .ensures .0) (c .before .before .before .before .before .before .before .tail-members .ensures .1) (c .before .before .before .tail-members2 .ensures .0) (c .before .before .before .tail-members2 .ensures .1) in let l = long (c .before .before .before .before .before .before .before .before .before .before .before .before .pre .opened) _ (c .before .before .before .before .before .before .before .tail-members .ensures .0) (c .before .before .before .before .before .before .before .tail-members .ensures .1) (c .before .before .before .tail-members2 .ensures .0) (c .before .before .before .tail-members2 .ensures .1) in omega arith
 
--- src/kept.rt:84:5
 add-result-2 : tie.Need-add-result-2
 add-result-2 c = let N = numbers (c .before .before .before .before .before .before .before .before .before .before .before .before .pre .opened) in let k = k-within (c .before .before .before .before .before .before .before .before .before .before .before .before .pre .opened) _ (c .before .before .before .before .before .before .before .tail-members .ensures .0) (c .before .before .before .before .before .before .before .tail-members .ensures .1) in let j = j-within (c .before .before .before .before .before .before .before .before .before .before .before .before .pre .opened) _ (c .before .before .before .before .before .before .before .tail-members .ensures .0) (c .before .before .before .before .before .before .before .tail-members .ensures .1) (c .before .before .before .tail-members2 .ensures .0) (c .before .before .before .tail-members2 .ensures .1) in let l = long (c .before .before .before .before .before .before .before .before .before .before .before .before .pre .opened) _ (c .before .before .before .before .before .before .before .tail-members .ensures .0) (c .before .before .before .before .before .before .before .tail-members .ensures .1) (c .before .before .before .tail-members2 .ensures .0) (c .before .before .before .tail-members2 .ensures .1) in omega arith
 
--- src/kept.rt:65:1
 same-length-2 : tie.Need-same-length-2
 same-length-2 c = let l = long (c .before .before .before .before .before .before .before .before .before .before .before .before .pre .opened) _ (c .before .before .before .before .before .before .before .tail-members .ensures .0) (c .before .before .before .before .before .before .before .tail-members .ensures .1) (c .before .before .before .tail-members2 .ensures .0) (c .before .before .before .tail-members2 .ensures .1) in search needs
 
--- src/kept.rt:65:1
 returns-2 : tie.Need-returns-2
 returns-2 c = record { laid = λ arities rest next p S. one-entry S _ (c .before .before .before .before .before .before .before .tail-members .ensures .0) (c .before .before .before .before .before .before .before .tail-members .ensures .1) (c .before .before .before .tail-members2 .ensures .0) (c .before .before .before .tail-members2 .ensures .1) (c .if1 .left) refl }
 

@@ -9,111 +9,85 @@ use borrow.Author.Needs.{needs}
 use Rattle.splits.proofs.nothing_bound.neither.Statement.{statement}
 use Rattle.splits.proofs.nothing_bound.neither.Tie as tie
 
--- src/kept.rt:45:18
 add-stride : tie.Need-add-stride
 add-stride c = search needs
 
--- src/kept.rt:46:14
 add-us : tie.Need-add-us
 add-us c = search needs
 
--- src/kept.rt:47:17
 add-picks : tie.Need-add-picks
 add-picks c = search needs
 
--- src/kept.rt:48:14
 add-by : tie.Need-add-by
 add-by c = search needs
 
--- src/kept.rt:48:14
 add-by-2 : tie.Need-add-by-2
 add-by-2 c = let N = numbers (c .before .before .before .pre .due .opened) in omega arith
 
--- src/kept.rt:49:13
 mul-x : tie.Need-mul-x
 mul-x c = let N = numbers (c .before .before .before .pre .due .opened) in omega arith
 
--- src/kept.rt:49:13
 slice-read-x : tie.Need-slice-read-x
 slice-read-x c = let N = numbers (c .before .before .before .before .pre .due .opened) in omega arith
 
--- src/kept.rt:52:27
 add-equations : tie.Need-add-equations
 add-equations c = search needs
 
--- src/kept.rt:52:78
 add-equations-2 : tie.Need-add-equations-2
 add-equations-2 c = search needs
 
--- src/kept.rt:52:11
 equations-requires : tie.Need-equations-requires
 equations-requires c κs = plain-parts (c .before .before .before .before .before .pre .due) _ (s-place (c .before .before .before .before .before .pre .due)) (s-apart (c .before .before .before .before .before .pre .due) 1 (omega arith))
 
--- src/kept.rt:53:22
 enum-known-w : tie.Need-enum-known-w
 enum-known-w c = search needs
 
--- src/kept.rt:54:53
 add-tails-equation : tie.Need-add-tails-equation
 add-tails-equation c = search needs
 
--- src/kept.rt:54:53
 add-tails-equation-2 : tie.Need-add-tails-equation-2
 add-tails-equation-2 c = let N = numbers (c .before .before .before .before .before .before .before .before .before .before .before .before .pre .due .opened) in let k = written-within (c .before .before .before .before .before .before .before .before .before .before .before .before .pre .due) (plain (c .before .before .before .before .before .before .before .before .before .before .before .before .pre .due) _ (s-place (c .before .before .before .before .before .before .before .before .before .before .before .before .pre .due)) (s-apart (c .before .before .before .before .before .before .before .before .before .before .before .before .pre .due) 1 (omega arith)) refl (rw (c .before .before .w .given .1) at (c .before .before .before .before .before .before .equations .ensures))) in omega (arith, c .before .before .before .before .before .before .before .before .before .before .before .before .pre .due .before)
 
--- src/kept.rt:54:70
 sub-tails-equation : tie.Need-sub-tails-equation
 sub-tails-equation c = let N = numbers (c .before .before .before .before .before .before .before .before .before .before .before .before .pre .due .opened) in let k = written-within (c .before .before .before .before .before .before .before .before .before .before .before .before .pre .due) (plain (c .before .before .before .before .before .before .before .before .before .before .before .before .pre .due) _ (s-place (c .before .before .before .before .before .before .before .before .before .before .before .before .pre .due)) (s-apart (c .before .before .before .before .before .before .before .before .before .before .before .before .pre .due) 1 (omega arith)) refl (rw (c .before .before .w .given .1) at (c .before .before .before .before .before .before .equations .ensures))) in omega (arith, c .before .before .before .before .before .before .before .before .before .before .before .before .pre .due .before)
 
--- src/kept.rt:54:19
 tails-equation-requires : tie.Need-tails-equation-requires
 tails-equation-requires c κs = tails-parts (c .before .before .before .before .before .before .before .before .before .before .before .before .pre .due) (plain (c .before .before .before .before .before .before .before .before .before .before .before .before .pre .due) _ (s-place (c .before .before .before .before .before .before .before .before .before .before .before .before .pre .due)) (s-apart (c .before .before .before .before .before .before .before .before .before .before .before .before .pre .due) 1 (omega arith)) refl (rw (c .before .before .w .given .1) at (c .before .before .before .before .before .before .equations .ensures)))
 
--- src/kept.rt:55:30
 enum-known-v : tie.Need-enum-known-v
 enum-known-v c = search needs
 
--- src/kept.rt:55:64
 add-keep : tie.Need-add-keep
 unfolding further
 add-keep c = let N = numbers (c .before .before .before .before .before .before .before .before .before .before .before .before .before .before .before .before .before .before .before .pre .due .opened) in let w = (last-written (c .before .before .before .before .before .before .before .before .before .before .before .before .before .before .before .before .before .before .before .pre .due) (plain (c .before .before .before .before .before .before .before .before .before .before .before .before .before .before .before .before .before .before .before .pre .due) _ (s-place (c .before .before .before .before .before .before .before .before .before .before .before .before .before .before .before .before .before .before .before .pre .due)) (s-apart (c .before .before .before .before .before .before .before .before .before .before .before .before .before .before .before .before .before .before .before .pre .due) 1 (omega arith)) refl (rw (c .before .before .before .before .before .before .before .before .before .w .given .1) at (c .before .before .before .before .before .before .before .before .before .before .before .before .before .equations .ensures))) (rw (c .before .before .v .given .1) at (c .before .before .before .before .before .before .tails-equation .ensures))) in omega (arith, done-fits w, done-length w)
 
--- src/kept.rt:55:36
 keep-requires : tie.Need-keep-requires
 unfolding further
 keep-requires c κs = let h = s-place (c .before .before .before .before .before .before .before .before .before .before .before .before .before .before .before .before .before .before .before .pre .due) in neither-parts (c .before .before .before .before .before .before .before .before .before .before .before .before .before .before .before .before .before .before .before .pre .due) (c .before .before .before .before .before .before .before .before .before .before .before .before .before .before .before .before .before .before .before .pre .kind) (last-written (c .before .before .before .before .before .before .before .before .before .before .before .before .before .before .before .before .before .before .before .pre .due) (plain (c .before .before .before .before .before .before .before .before .before .before .before .before .before .before .before .before .before .before .before .pre .due) _ (s-place (c .before .before .before .before .before .before .before .before .before .before .before .before .before .before .before .before .before .before .before .pre .due)) (s-apart (c .before .before .before .before .before .before .before .before .before .before .before .before .before .before .before .before .before .before .before .pre .due) 1 (omega arith)) refl (rw (c .before .before .before .before .before .before .before .before .before .w .given .1) at (c .before .before .before .before .before .before .before .before .before .before .before .before .before .equations .ensures))) (rw (c .before .before .v .given .1) at (c .before .before .before .before .before .before .tails-equation .ensures))) _ (omega arith) (s-apart (c .before .before .before .before .before .before .before .before .before .before .before .before .before .before .before .before .before .before .before .pre .due) 0 (omega arith))
 
--- src/kept.rt:56:33
 enum-told : tie.Need-enum-told
 enum-told c = search needs
 
--- src/kept.rt:59:25
 enum-told-2 : tie.Need-enum-told-2
 enum-told-2 c = search needs
 
--- src/kept.rt:31:1
 same-length : tie.Need-same-length
 same-length c = search needs
 
--- src/kept.rt:31:1
 returns : tie.Need-returns
 unfolding further
 returns c = child-made (λ p D k. let h = s-place D in neither-made D k (last-written D (plain D _ (s-place D) (s-apart D 1 (omega arith)) refl (rw (c .before .before .before .before .before .before .before .before .before .before .before .before .w .given .1) at (c .before .before .before .before .before .before .before .before .before .before .before .before .before .before .before .before .equations .ensures))) (rw (c .before .before .before .before .before .v .given .1) at (c .before .before .before .before .before .before .before .before .before .tails-equation .ensures))) _ (omega arith) (s-apart D 0 (omega arith)) (c .before .before .keep .ensures))
 
--- src/kept.rt:31:1
 same-length-2 : tie.Need-same-length-2
 same-length-2 c = search needs
 
--- src/kept.rt:31:1
 returns-2 : tie.Need-returns-2
 unfolding further
 returns-2 c = child-made (λ p D k. last-full D k (last-written D (plain D _ (s-place D) (s-apart D 1 (omega arith)) refl (rw (c .before .before .before .before .before .before .before .w .given .1) at (c .before .before .before .before .before .before .before .before .before .before .before .equations .ensures))) (rw (c .enum-told .given .1) at (c .before .before .before .before .tails-equation .ensures))))
 
--- src/kept.rt:31:1
 same-length-3 : tie.Need-same-length-3
 same-length-3 c = search needs
 
--- src/kept.rt:31:1
 returns-3 : tie.Need-returns-3
 returns-3 c = child-made (λ p D k. news-full D k (plain D _ (s-place D) (s-apart D 1 (omega arith)) refl (rw (c .enum-told2 .given .1) at (c .before .before .before .before .equations .ensures))))
 

@@ -9,79 +9,60 @@ use borrow.Author.Needs.{needs}
 use Rattle.splits.proofs.nothing_bound.same.Statement.{statement}
 use Rattle.splits.proofs.nothing_bound.same.Tie as tie
 
--- src/kept.rt:102:18
 add-stride : tie.Need-add-stride
 add-stride c = search needs
 
--- src/kept.rt:103:14
 add-us : tie.Need-add-us
 add-us c = search needs
 
--- src/kept.rt:104:17
 add-picks : tie.Need-add-picks
 add-picks c = search needs
 
--- src/kept.rt:105:17
 add-value : tie.Need-add-value
 add-value c = search needs
 
--- src/kept.rt:106:14
 add-by : tie.Need-add-by
 add-by c = search needs
 
--- src/kept.rt:106:14
 add-by-2 : tie.Need-add-by-2
 add-by-2 c = let N = numbers (c .before .before .before .pre .due .opened) in omega arith
 
--- src/kept.rt:107:9
 lay-entry-requires : tie.Need-lay-entry-requires
 lay-entry-requires c κs = search needs
 
--- src/kept.rt:108:13
 mul-x : tie.Need-mul-x
 mul-x c = let h = s-place (due-laid (c .before .before .before .before .before .before .before .pre .due) (c .before .before .lay-entry .ensures)) in omega arith
 
--- src/kept.rt:108:13
 slice-read-x : tie.Need-slice-read-x
 slice-read-x c = let h = s-place (due-laid (c .before .before .before .before .before .before .before .before .pre .due) (c .before .before .before .lay-entry .ensures)) in omega arith
 
--- src/kept.rt:111:27
 add-equations : tie.Need-add-equations
 add-equations c = search needs
 
--- src/kept.rt:111:78
 add-equations-2 : tie.Need-add-equations-2
 add-equations-2 c = search needs
 
--- src/kept.rt:111:11
 equations-requires : tie.Need-equations-requires
 equations-requires c κs = plain-parts (due-laid (c .before .before .before .before .before .before .before .before .before .pre .due) (c .before .before .before .before .lay-entry .ensures)) _ (s-place (due-laid (c .before .before .before .before .before .before .before .before .before .pre .due) (c .before .before .before .before .lay-entry .ensures))) (s-apart (due-laid (c .before .before .before .before .before .before .before .before .before .pre .due) (c .before .before .before .before .lay-entry .ensures)) 1 (omega arith))
 
--- src/kept.rt:112:22
 enum-known-w : tie.Need-enum-known-w
 enum-known-w c = search needs
 
--- src/kept.rt:112:28
 keep-requires : tie.Need-keep-requires
 keep-requires c κs = keep-parts (due-laid (c .before .before .before .before .before .before .before .before .before .before .before .before .before .before .before .before .pre .due) (c .before .before .before .before .before .before .before .before .before .before .before .lay-entry .ensures)) (news (c .before .before .before .before .before .before .before .before .before .before .before .before .before .before .before .before .pre .p)) (plain (due-laid (c .before .before .before .before .before .before .before .before .before .before .before .before .before .before .before .before .pre .due) (c .before .before .before .before .before .before .before .before .before .before .before .lay-entry .ensures)) _ (s-place (due-laid (c .before .before .before .before .before .before .before .before .before .before .before .before .before .before .before .before .pre .due) (c .before .before .before .before .before .before .before .before .before .before .before .lay-entry .ensures))) (s-apart (due-laid (c .before .before .before .before .before .before .before .before .before .before .before .before .before .before .before .before .pre .due) (c .before .before .before .before .before .before .before .before .before .before .before .lay-entry .ensures)) 1 (omega arith)) refl (rw (c .before .before .w .given .1) at (c .before .before .before .before .before .before .equations .ensures))) (entry-within (c .before .before .before .before .before .before .before .before .before .before .before .before .before .before .before .before .pre .due) (c .before .before .before .before .before .before .before .before .before .before .before .lay-entry .ensures)) (entry-apart (c .before .before .before .before .before .before .before .before .before .before .before .before .before .before .before .before .pre .due) (c .before .before .before .before .before .before .before .before .before .before .before .lay-entry .ensures))
 
--- src/kept.rt:113:25
 enum-told : tie.Need-enum-told
 enum-told c = search needs
 
--- src/kept.rt:88:1
 same-length : tie.Need-same-length
 same-length c = search needs
 
--- src/kept.rt:88:1
 returns : tie.Need-returns
 returns c = child-made (λ p D k. same-made D (c .before .before .before .before .before .before .before .before .before .before .before .before .before .before .lay-entry .ensures) k (plain (due-laid D (c .before .before .before .before .before .before .before .before .before .before .before .before .before .before .lay-entry .ensures)) _ (s-place (due-laid D (c .before .before .before .before .before .before .before .before .before .before .before .before .before .before .lay-entry .ensures))) (s-apart (due-laid D (c .before .before .before .before .before .before .before .before .before .before .before .before .before .before .lay-entry .ensures)) 1 (omega arith)) refl (rw (c .before .before .before .before .before .w .given .1) at (c .before .before .before .before .before .before .before .before .before .equations .ensures))) (c .before .before .keep .ensures))
 
--- src/kept.rt:88:1
 same-length-2 : tie.Need-same-length-2
 same-length-2 c = search needs
 
--- src/kept.rt:88:1
 returns-2 : tie.Need-returns-2
 returns-2 c = child-made (λ p D k. same-full D (c .before .before .before .before .before .before .before .before .before .lay-entry .ensures) k (plain (due-laid D (c .before .before .before .before .before .before .before .before .before .lay-entry .ensures)) _ (s-place (due-laid D (c .before .before .before .before .before .before .before .before .before .lay-entry .ensures))) (s-apart (due-laid D (c .before .before .before .before .before .before .before .before .before .lay-entry .ensures)) 1 (omega arith)) refl (rw (c .enum-told .given .1) at (c .before .before .before .before .equations .ensures))))
 

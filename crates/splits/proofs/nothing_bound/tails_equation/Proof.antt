@@ -3,55 +3,42 @@ use borrow.Author.Needs.{needs}
 use Rattle.splits.proofs.nothing_bound.tails_equation.Statement.{statement}
 use Rattle.splits.proofs.nothing_bound.tails_equation.Tie as tie
 
--- src/kept.rt:19:16
 add-body : tie.Need-add-body
 add-body c = search needs
 
--- src/kept.rt:20:13
 sub-s : tie.Need-sub-s
 sub-s c = search needs
 
--- src/kept.rt:21:13
 sub-r : tie.Need-sub-r
 sub-r c = search needs
 
--- src/kept.rt:22:19
 add-if1 : tie.Need-add-if1
 add-if1 c = search needs
 
--- src/kept.rt:23:9
 returns : tie.Need-returns
 returns c = tails-full (c .before .before .before .before .pre) (c .if1 .taken)
 
--- src/kept.rt:25:22
 add-copy : tie.Need-add-copy
 add-copy c = search needs
 
--- src/kept.rt:25:5
 copy-requires : tie.Need-copy-requires
 copy-requires c κs = s-parts (c .before .before .before .before .before .before .pre) (c .before .before .if1 .left)
 
--- src/kept.rt:26:22
 add-copy-2 : tie.Need-add-copy-2
 add-copy-2 c = search needs
 
--- src/kept.rt:26:41
 add-copy-3 : tie.Need-add-copy-3
 add-copy-3 c = search needs
 
--- src/kept.rt:26:5
 copy-requires-2 : tie.Need-copy-requires-2
 copy-requires-2 c κs = r-parts (c .before .before .before .before .before .before .before .before .before .before .before .pre) (c .before .before .before .before .before .before .before .if1 .left) (c .before .before .before .before .copy .ensures)
 
--- src/kept.rt:27:18
 add-t9 : tie.Need-add-t9
 add-t9 c = search needs
 
--- src/kept.rt:15:1
 same-length : tie.Need-same-length
 same-length c = search needs
 
--- src/kept.rt:15:1
 returns-2 : tie.Need-returns-2
 returns-2 c = tails-written (c .before .before .before .before .before .before .before .before .before .before .before .before .before .before .pre) (c .before .before .before .before .before .before .before .before .before .before .if1 .left) (c .before .before .before .before .before .before .before .copy .ensures) (c .before .before .copy2 .ensures)
 

@@ -2,83 +2,63 @@ use borrow.Author.Needs.{needs}
 use Rattle.splits.proofs.split.split.Statement.{statement}
 use Rattle.splits.proofs.split.split.Tie as tie
 
--- src/split.rt:28:44
 enum-told : tie.Need-enum-told
 enum-told c = search needs
 
--- src/split.rt:28:27
 neither-requires : tie.Need-neither-requires
 neither-requires c κs = rw (c .before .enum-told .given .1) at (c .before .before .before .before .before .pre)
 
--- src/split.rt:29:38
 enum-told-2 : tie.Need-enum-told-2
 enum-told-2 c = search needs
 
--- src/split.rt:29:24
 left-requires : tie.Need-left-requires
 left-requires c κs = rw (c .before .enum-told2 .given .1) at (c .before .before .before .before .before .pre)
 
--- src/split.rt:30:40
 enum-told-3 : tie.Need-enum-told-3
 enum-told-3 c = search needs
 
--- src/split.rt:30:25
 right-requires : tie.Need-right-requires
 right-requires c κs = rw (c .before .enum-told3 .given .1) at (c .before .before .before .before .before .pre)
 
--- src/split.rt:31:48
 enum-told-4 : tie.Need-enum-told-4
 enum-told-4 c = search needs
 
--- src/split.rt:31:29
 different-requires : tie.Need-different-requires
 different-requires c κs = rw (c .before .enum-told4 .given .1) at (c .before .before .before .before .before .pre)
 
--- src/split.rt:32:38
 enum-told-5 : tie.Need-enum-told-5
 enum-told-5 c = search needs
 
--- src/split.rt:32:24
 same-requires : tie.Need-same-requires
 same-requires c κs = rw (c .before .enum-told5 .given .1) at (c .before .before .before .before .before .pre)
 
--- src/split.rt:12:1
 same-length : tie.Need-same-length
 same-length c = search needs
 
--- src/split.rt:12:1
 returns : tie.Need-returns
 returns c = rw (c .before .before .before .before .enum-told .given .1) (c .before .before .neither .ensures)
 
--- src/split.rt:12:1
 same-length-2 : tie.Need-same-length-2
 same-length-2 c = search needs
 
--- src/split.rt:12:1
 returns-2 : tie.Need-returns-2
 returns-2 c = rw (c .before .before .before .before .enum-told2 .given .1) (c .before .before .left .ensures)
 
--- src/split.rt:12:1
 same-length-3 : tie.Need-same-length-3
 same-length-3 c = search needs
 
--- src/split.rt:12:1
 returns-3 : tie.Need-returns-3
 returns-3 c = rw (c .before .before .before .before .enum-told3 .given .1) (c .before .before .right .ensures)
 
--- src/split.rt:12:1
 same-length-4 : tie.Need-same-length-4
 same-length-4 c = search needs
 
--- src/split.rt:12:1
 returns-4 : tie.Need-returns-4
 returns-4 c = rw (c .before .before .before .before .enum-told4 .given .1) (c .before .before .different .ensures)
 
--- src/split.rt:12:1
 same-length-5 : tie.Need-same-length-5
 same-length-5 c = search needs
 
--- src/split.rt:12:1
 returns-5 : tie.Need-returns-5
 returns-5 c = rw (c .before .before .before .before .enum-told5 .given .1) (c .before .before .same .ensures)
 

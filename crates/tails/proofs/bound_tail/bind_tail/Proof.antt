@@ -5,48 +5,37 @@ use borrow.Author.Needs.{needs}
 use Rattle.tails.proofs.bound_tail.bind_tail.Statement.{statement}
 use Rattle.tails.proofs.bound_tail.bind_tail.Tie as tie
 
--- src/bound.rt:57:15
 add-end : tie.Need-add-end
 add-end c = search needs
 
--- src/bound.rt:58:14
 mul-is-in : tie.Need-mul-is-in
 mul-is-in c = search needs
 
--- src/bound.rt:58:14
 sub-is-in : tie.Need-sub-is-in
 sub-is-in c = search needs
 
--- src/bound.rt:58:14
 part-is-in-start : tie.Need-part-is-in-start
 part-is-in-start c = search needs
 
--- src/bound.rt:58:14
 part-is-in-end : tie.Need-part-is-in-end
 part-is-in-end c = search needs
 
--- src/bound.rt:58:8
 is-in-requires : tie.Need-is-in-requires
 is-in-requires c κs = search needs
 
--- src/bound.rt:59:9
 same-length : tie.Need-same-length
 same-length c = search needs
 
--- src/bound.rt:59:9
 returns : tie.Need-returns
 unfolding seg
 returns c = record { makes = λ p name value B. tail-dead B (c .before .is-in .ensures) (c .if1 .taken); kept = elsewhere-same }
 
--- src/bound.rt:61:5
 bound-requires : tie.Need-bound-requires
 bound-requires c κs = search needs
 
--- src/bound.rt:40:1
 same-length-2 : tie.Need-same-length-2
 same-length-2 c = search needs
 
--- src/bound.rt:40:1
 returns-2 : tie.Need-returns-2
 unfolding seg
 returns-2 c = record { makes = λ p name value B. tail-bound B (c .before .before .before .before .before .is-in .ensures) (c .before .before .before .before .if1 .left) (c .before .before .bound .ensures); kept = c .before .before .bound .ensures .kept }

@@ -4,55 +4,42 @@ use borrow.Author.Needs.{needs}
 use Rattle.tails.proofs.bound_tail.bound.Statement.{statement}
 use Rattle.tails.proofs.bound_tail.bound.Tie as tie
 
--- src/bound.rt:27:18
 add-stride : tie.Need-add-stride
 add-stride c = search needs
 
--- src/bound.rt:28:14
 add-us : tie.Need-add-us
 add-us c = search needs
 
--- src/bound.rt:29:17
 add-picks : tie.Need-add-picks
 add-picks c = search needs
 
--- src/bound.rt:32:27
 add-equations : tie.Need-add-equations
 add-equations c = search needs
 
--- src/bound.rt:32:78
 add-equations-2 : tie.Need-add-equations-2
 add-equations-2 c = search needs
 
--- src/bound.rt:32:11
 equations-requires : tie.Need-equations-requires
 equations-requires c κs = bound-parts (c .before .before .before .pre .bound)
 
--- src/bound.rt:33:22
 enum-known-w : tie.Need-enum-known-w
 enum-known-w c = search needs
 
--- src/bound.rt:33:28
 finish-requires : tie.Need-finish-requires
 finish-requires c κs = finish-parts (c .before .before .before .before .before .before .before .before .before .before .pre .bound) (rw (c .before .before .w .given .1) at (c .before .before .before .before .before .before .equations .ensures))
 
--- src/bound.rt:34:25
 enum-told : tie.Need-enum-told
 enum-told c = search needs
 
--- src/bound.rt:10:1
 same-length : tie.Need-same-length
 same-length c = search needs
 
--- src/bound.rt:10:1
 returns : tie.Need-returns
 returns c = record { makes = λ p name value B. bound-made B (rw (c .before .before .before .before .before .w .given .1) at (c .before .before .before .before .before .before .before .before .before .equations .ensures)) (c .before .before .finish .ensures); kept = row-elsewhere (c .before .before .before .before .before .before .before .before .before .before .before .before .before .pre .bound .target) (c .before .before .before .before .before .before .before .before .before .equations .ensures) (c .before .before .finish .ensures) }
 
--- src/bound.rt:10:1
 same-length-2 : tie.Need-same-length-2
 same-length-2 c = search needs
 
--- src/bound.rt:10:1
 returns-2 : tie.Need-returns-2
 returns-2 c = record { makes = λ p name value B. bound-full B (rw (c .enum-told .given .1) at (c .before .before .before .before .equations .ensures)); kept = wrote-elsewhere (c .before .before .before .before .before .before .before .before .pre .bound .target) (c .before .before .before .before .equations .ensures) }
 

@@ -11,115 +11,87 @@ Inv-loop room₀ body places picks n others to i₀ written₀ room i written = 
 abbrev μ-loop : tie.MeasureT-loop
 μ-loop room₀ body places picks n others to i₀ written₀ room i written = n - i
 
--- src/tails.rt:25:5
 loop-holds : tie.Need-loop-holds Inv-loop μ-loop
 loop-holds c = none-joined _ (c .before .pre)
 
--- src/tails.rt:26:22
 add-wide : tie.Need-add-wide Inv-loop μ-loop
 add-wide c = let N = numbers (c .before .loop .inv) in omega arith
 
--- src/tails.rt:26:17
 mul-wide : tie.Need-mul-wide Inv-loop μ-loop
 mul-wide c = let N = numbers (c .before .loop .inv) in omega arith
 
--- src/tails.rt:26:17
 slice-read-wide : tie.Need-slice-read-wide Inv-loop μ-loop
 slice-read-wide c = let N = numbers (c .before .before .loop .inv) in omega arith
 
--- src/tails.rt:26:12
 wide-requires : tie.Need-wide-requires Inv-loop μ-loop
 wide-requires c κs = search needs
 
--- src/tails.rt:27:13
 add-i : tie.Need-add-i Inv-loop μ-loop
 add-i c = let N = numbers (c .before .before .before .before .loop .inv) in omega arith
 
--- src/tails.rt:25:5
 loop-less : tie.Need-loop-less Inv-loop μ-loop
 loop-less c = let N = numbers (c .before .before .before .before .loop .inv) in omega arith
 
--- src/tails.rt:25:5
 loop-again : tie.Need-loop-again Inv-loop μ-loop
 loop-again c = member-skipped (c .before .before .before .before .loop .inv) (c .before .before .before .loop-test .taken) _ (c .before .wide .ensures) (c .if1 .taken)
 
--- src/tails.rt:29:31
 add-wide-2 : tie.Need-add-wide-2 Inv-loop μ-loop
 add-wide-2 c = let N = numbers (c .before .before .before .before .loop .inv) in omega arith
 
--- src/tails.rt:29:26
 mul-wide-2 : tie.Need-mul-wide-2 Inv-loop μ-loop
 mul-wide-2 c = let N = numbers (c .before .before .before .before .loop .inv) in omega arith
 
--- src/tails.rt:29:26
 slice-read-wide-2 : tie.Need-slice-read-wide-2 Inv-loop μ-loop
 slice-read-wide-2 c = let N = numbers (c .before .before .before .before .before .loop .inv) in omega arith
 
--- src/tails.rt:29:17
 wide-requires-2 : tie.Need-wide-requires-2 Inv-loop μ-loop
 wide-requires-2 c κs = search needs
 
--- src/tails.rt:30:31
 add-wide-3 : tie.Need-add-wide-3 Inv-loop μ-loop
 add-wide-3 c = let N = numbers (c .before .before .before .before .before .before .loop .inv) in omega arith
 
--- src/tails.rt:30:31
 add-wide-4 : tie.Need-add-wide-4 Inv-loop μ-loop
 add-wide-4 c = let N = numbers (c .before .before .before .before .before .before .loop .inv) in omega arith
 
--- src/tails.rt:30:26
 mul-wide-3 : tie.Need-mul-wide-3 Inv-loop μ-loop
 mul-wide-3 c = let N = numbers (c .before .before .before .before .before .before .loop .inv) in omega arith
 
--- src/tails.rt:30:26
 slice-read-wide-3 : tie.Need-slice-read-wide-3 Inv-loop μ-loop
 slice-read-wide-3 c = let N = numbers (c .before .before .before .before .before .before .before .loop .inv) in omega arith
 
--- src/tails.rt:30:17
 wide-requires-3 : tie.Need-wide-requires-3 Inv-loop μ-loop
 wide-requires-3 c κs = search needs
 
--- src/tails.rt:31:30
 add-copy : tie.Need-add-copy Inv-loop μ-loop
 add-copy c = let N = numbers (c .before .before .before .before .before .before .before .before .before .loop .inv) in let R = rising (c .before .before .before .before .before .before .before .before .before .loop .inv) (c .before .before .before .before .before .before .before .before .loop-test .taken) _ _ (c .before .before .before .wide2 .ensures) (c .before .wide3 .ensures) in omega arith
 
--- src/tails.rt:31:40
 sub-copy : tie.Need-sub-copy Inv-loop μ-loop
 sub-copy c = let N = numbers (c .before .before .before .before .before .before .before .before .before .loop .inv) in let R = rising (c .before .before .before .before .before .before .before .before .before .loop .inv) (c .before .before .before .before .before .before .before .before .loop-test .taken) _ _ (c .before .before .before .wide2 .ensures) (c .before .wide3 .ensures) in omega arith
 
--- src/tails.rt:31:47
 add-copy-2 : tie.Need-add-copy-2 Inv-loop μ-loop
 add-copy-2 c = let N = numbers (c .before .before .before .before .before .before .before .before .before .loop .inv) in let R = rising (c .before .before .before .before .before .before .before .before .before .loop .inv) (c .before .before .before .before .before .before .before .before .loop-test .taken) _ _ (c .before .before .before .wide2 .ensures) (c .before .wide3 .ensures) in omega arith
 
--- src/tails.rt:31:13
 copy-requires : tie.Need-copy-requires Inv-loop μ-loop
 copy-requires c κs = copy-parts (c .before .before .before .before .before .before .before .before .before .loop .inv) (c .before .before .before .before .before .before .before .before .loop-test .taken) _ _ (c .before .before .before .wide2 .ensures) (c .before .wide3 .ensures)
 
--- src/tails.rt:32:24
 sub-written : tie.Need-sub-written Inv-loop μ-loop
 sub-written c = let N = numbers (c .before .before .before .before .before .before .before .before .before .before .before .before .loop .inv) in let R = rising (c .before .before .before .before .before .before .before .before .before .before .before .before .loop .inv) (c .before .before .before .before .before .before .before .before .before .before .before .loop-test .taken) _ _ (c .before .before .before .before .before .before .wide2 .ensures) (c .before .before .before .before .wide3 .ensures) in omega arith
 
--- src/tails.rt:32:13
 add-written : tie.Need-add-written Inv-loop μ-loop
 add-written c = let N = numbers (c .before .before .before .before .before .before .before .before .before .before .before .before .loop .inv) in let R = rising (c .before .before .before .before .before .before .before .before .before .before .before .before .loop .inv) (c .before .before .before .before .before .before .before .before .before .before .before .loop-test .taken) _ _ (c .before .before .before .before .before .before .wide2 .ensures) (c .before .before .before .before .wide3 .ensures) in omega arith
 
--- src/tails.rt:33:13
 add-i-2 : tie.Need-add-i-2 Inv-loop μ-loop
 add-i-2 c = let N = numbers (c .before .before .before .before .before .before .before .before .before .before .before .before .loop .inv) in omega arith
 
--- src/tails.rt:25:5
 loop-less-2 : tie.Need-loop-less-2 Inv-loop μ-loop
 loop-less-2 c = let N = numbers (c .before .before .before .before .before .before .before .before .before .before .before .before .loop .inv) in omega arith
 
--- src/tails.rt:25:5
 loop-again-2 : tie.Need-loop-again-2 Inv-loop μ-loop
 loop-again-2 c = member-joined (c .before .before .before .before .before .before .before .before .before .before .before .before .loop .inv) (c .before .before .before .before .before .before .before .before .before .before .before .loop-test .taken) _ _ (c .before .before .before .before .before .before .wide2 .ensures) (c .before .before .before .before .wide3 .ensures) _ (c .before .before .before .before .before .before .before .before .before .wide .ensures) (c .before .before .before .before .before .before .before .before .if1 .left) (c .before .before .copy .ensures)
 
--- src/tails.rt:10:1
 same-length : tie.Need-same-length Inv-loop μ-loop
 same-length c = let N = numbers (c .before .loop .inv) in omega arith
 
--- src/tails.rt:10:1
 returns : tie.Need-returns Inv-loop μ-loop
 returns c = (all-joined (c .before .loop .inv) (c .loop-test .left), all-put (c .before .loop .inv) (c .loop-test .left))
 

@@ -6,59 +6,45 @@ use borrow.Author.Needs.{needs}
 use Rattle.tails.proofs.one_tail.left.Statement.{statement}
 use Rattle.tails.proofs.one_tail.left.Tie as tie
 
--- src/tail.rt:52:18
 add-stride : tie.Need-add-stride
 add-stride c = search needs
 
--- src/tail.rt:53:14
 add-us : tie.Need-add-us
 add-us c = search needs
 
--- src/tail.rt:54:17
 add-picks : tie.Need-add-picks
 add-picks c = search needs
 
--- src/tail.rt:55:17
 add-value : tie.Need-add-value
 add-value c = search needs
 
--- src/tail.rt:56:18
 add-x : tie.Need-add-x
 add-x c = search needs
 
--- src/tail.rt:56:18
 add-x-2 : tie.Need-add-x-2
 add-x-2 c = let N = numbers (c .before .before .before .pre .due .opened) in omega arith
 
--- src/tail.rt:56:13
 mul-x : tie.Need-mul-x
 mul-x c = let N = numbers (c .before .before .before .pre .due .opened) in omega arith
 
--- src/tail.rt:56:13
 slice-read-x : tie.Need-slice-read-x
 slice-read-x c = let N = numbers (c .before .before .before .before .pre .due .opened) in omega arith
 
--- src/tail.rt:61:9
 add-lay-value : tie.Need-add-lay-value
 add-lay-value c = let N = numbers (c .before .before .before .before .before .before .pre .due .opened) in omega arith
 
--- src/tail.rt:65:9
 sub-lay-value : tie.Need-sub-lay-value
 sub-lay-value c = let N = numbers (c .before .before .before .before .before .before .before .pre .due .opened) in omega arith
 
--- src/tail.rt:57:9
 lay-value-requires : tie.Need-lay-value-requires
 lay-value-requires c κs = left-value-parts (c .before .before .before .before .before .before .before .pre .due)
 
--- src/tail.rt:68:5
 bind-tail-requires : tie.Need-bind-tail-requires
 bind-tail-requires c κs = left-bound-parts (c .before .before .before .before .before .before .before .before .before .before .before .pre .due) (c .before .before .before .before .before .before .before .before .before .before .before .pre .kind) (c .before .before .before .lay-value .ensures .0) (c .before .before .before .lay-value .ensures .1) refl
 
--- src/tail.rt:38:1
 same-length : tie.Need-same-length
 same-length c = search needs
 
--- src/tail.rt:38:1
 returns : tie.Need-returns
 returns c = record { makes = λ p D k. left-made D k (c .before .before .before .before .before .before .lay-value .ensures .0) (c .before .before .before .before .before .before .lay-value .ensures .1) refl (c .before .before .bind-tail .ensures); kept = λ p D k. tail-kept D _ (c .before .before .before .before .before .before .lay-value .ensures .1) (c .before .before .bind-tail .ensures) }
 

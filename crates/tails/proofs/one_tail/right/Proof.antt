@@ -6,55 +6,42 @@ use borrow.Author.Needs.{needs}
 use Rattle.tails.proofs.one_tail.right.Statement.{statement}
 use Rattle.tails.proofs.one_tail.right.Tie as tie
 
--- src/tail.rt:86:18
 add-stride : tie.Need-add-stride
 add-stride c = search needs
 
--- src/tail.rt:87:14
 add-us : tie.Need-add-us
 add-us c = search needs
 
--- src/tail.rt:88:17
 add-picks : tie.Need-add-picks
 add-picks c = search needs
 
--- src/tail.rt:89:17
 add-value : tie.Need-add-value
 add-value c = search needs
 
--- src/tail.rt:90:18
 add-x : tie.Need-add-x
 add-x c = search needs
 
--- src/tail.rt:90:18
 add-x-2 : tie.Need-add-x-2
 add-x-2 c = let N = numbers (c .before .before .before .pre .due .opened) in omega arith
 
--- src/tail.rt:90:13
 mul-x : tie.Need-mul-x
 mul-x c = let N = numbers (c .before .before .before .pre .due .opened) in omega arith
 
--- src/tail.rt:90:13
 slice-read-x : tie.Need-slice-read-x
 slice-read-x c = let N = numbers (c .before .before .before .before .pre .due .opened) in omega arith
 
--- src/tail.rt:99:9
 sub-lay-value : tie.Need-sub-lay-value
 sub-lay-value c = let N = numbers (c .before .before .before .before .before .before .pre .due .opened) in omega arith
 
--- src/tail.rt:91:9
 lay-value-requires : tie.Need-lay-value-requires
 lay-value-requires c κs = right-value-parts (c .before .before .before .before .before .before .pre .due)
 
--- src/tail.rt:102:5
 bind-tail-requires : tie.Need-bind-tail-requires
 bind-tail-requires c κs = right-bound-parts (c .before .before .before .before .before .before .before .before .before .before .pre .due) (c .before .before .before .before .before .before .before .before .before .before .pre .kind) (c .before .before .before .lay-value .ensures .0) (c .before .before .before .lay-value .ensures .1) refl
 
--- src/tail.rt:72:1
 same-length : tie.Need-same-length
 same-length c = search needs
 
--- src/tail.rt:72:1
 returns : tie.Need-returns
 returns c = record { makes = λ p D k. right-made D k (c .before .before .before .before .before .before .lay-value .ensures .0) (c .before .before .before .before .before .before .lay-value .ensures .1) refl (c .before .before .bind-tail .ensures); kept = λ p D k. tail-kept D _ (c .before .before .before .before .before .before .lay-value .ensures .1) (c .before .before .bind-tail .ensures) }
 
