@@ -10,6 +10,7 @@ use Rattle.search.specs.State.{State, Node, dead, live}
 use Rattle.search.specs.Children.{children}
 use Rattle.rows.specs.declared.parts.Made.{Made}
 use Rattle.rows.specs.declared.parts.Made.the-variants.{Dead, Names, Large, Live}
+use Rattle.rows.specs.Made.{of-reached}
 use Rattle.rows.specs.Row.{Makes, becomes}
 use Rattle.only_child.specs.declared.next.Next.{Next}
 use Rattle.only_child.specs.declared.next.Next.the-variants.{Spent, Due}
@@ -46,7 +47,7 @@ module _ (l : List ℕ) (at number size most : ℕ) (st : State) where
   -- the child was made
   by-made : (node : Node) (a : Made) {r : List ℕ} → 0 < most → drop number (children st) ≡ node ∷ [] → Makes edition-one l (at + (size + 8)) size node a r
       → Tells l (at + (size + 8)) size (drop number (children st)) most r (next-made a)
-  unfolding next-made dead-ends becomes
+  unfolding next-made of-reached dead-ends becomes
   by-made dead Dead h e M = all-dead h e
   by-made dead Names h e M = let t = M .tells in let z : _≡_ {A = ℕ} 0 1 = cc in absurd (omega arith)
   by-made dead Large h e M = let t = M .tells in let z : _≡_ {A = ℕ} 0 1 = cc in absurd (omega arith)

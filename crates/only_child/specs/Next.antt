@@ -10,6 +10,9 @@ use Rattle.search.specs.State.{State, Node, dead, live, state-size}
 use Rattle.search.specs.Children.{children}
 use Rattle.rows.specs.declared.parts.Made.{Made}
 use Rattle.rows.specs.declared.parts.Made.the-variants.{Dead, Names, Large, Live}
+use Rattle.rows.specs.declared.parts.Reached.{Reached}
+use Rattle.rows.specs.declared.parts.Reached.the-variants as reached
+use Rattle.rows.specs.Made.{of-reached}
 use Rattle.rows.specs.Row.{Holds, Makes}
 use Rattle.binding.specs.At.{Sound}
 use Rattle.only_child.specs.declared.next.Next.{Next}
@@ -35,7 +38,7 @@ pub data Tells (l : List ℕ) (to size : ℕ) (ns : List Node) (most : ℕ) (r :
   -- so many dead ends, and nothing more
   all-dead : {k : ℕ} → k ≤ most → ns ≡ dead-ends k ++ [] → Tells l to size ns most r (Spent k)
   -- after them a node that is none, and what became of it
-  then-live : {k : ℕ} {a : Made} (next : State) (rest : List Node) → k < most → ns ≡ dead-ends k ++ (live next ∷ rest) → Makes edition-one l to size (live next) a r
+  then-live : {k : ℕ} {a : Reached} (next : State) (rest : List Node) → k < most → ns ≡ dead-ends k ++ (live next ∷ rest) → Makes edition-one l to size (live next) (of-reached a) r
       → Tells l to size ns most r (Found k a)
   -- as many as may be passed, and another child after them
   then-due : {k : ℕ} (node : Node) (rest : List Node) → k ≡ most → ns ≡ dead-ends k ++ (node ∷ rest) → Tells l to size ns most r (Due k)
@@ -56,9 +59,9 @@ pub record Kept (l : List ℕ) (at number size scratch most : ℕ) (st : State) 
 -- what is told of the only child, by what became of it
 unfoldable pub next-made : Made → Next
 next-made Dead = Spent 1
-next-made Names = Found 0 Names
-next-made Large = Found 0 Large
-next-made Live = Found 0 Live
+next-made Names = Found 0 reached.Names
+next-made Large = Found 0 reached.Large
+next-made Live = Found 0 reached.Live
 
 -- a part of what is as it was
 pub same-part : (l r : List ℕ) (k n i j : ℕ) → i + j ≤ n → seg r k n ≡ seg l k n → seg r (k + i) j ≡ seg l (k + i) j

@@ -2,12 +2,13 @@
 ghost use mathlib.Core.Path.{_≡_};
 ghost use Rattle.only_child.specs.Next.{next-made};
 use rows::parts::Made;
+use rows::parts::Reached;
 
 pub enum Next {
     // so many dead ends, and no child after them
     Spent(usize),
     // so many dead ends, and then a node that is none
-    Node(usize, Made),
+    Node(usize, Reached),
     // so many dead ends, and a child after them that may not be opened
     Due(usize),
 }
@@ -24,8 +25,8 @@ pub fn told_of(made: Made) -> Next
 {
     match made {
         Made::Dead => Next::Spent(1),
-        Made::Names => Next::Node(0, Made::Names),
-        Made::Large => Next::Node(0, Made::Large),
-        Made::Live => Next::Node(0, Made::Live),
+        Made::Names => Next::Node(0, Reached::Names),
+        Made::Large => Next::Node(0, Reached::Large),
+        Made::Live => Next::Node(0, Reached::Live),
     }
 }

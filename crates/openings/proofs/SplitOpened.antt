@@ -12,7 +12,7 @@ use Rattle.search.specs.State.{State, pend}
 use Rattle.search.specs.Children.{children}
 use Rattle.search.specs.declared.steps.Tails.{Tails}
 use Rattle.rows.specs.declared.parts.Rest.{Rest}
-use Rattle.rows.specs.declared.parts.Made.the-variants.{Live}
+use Rattle.rows.specs.declared.parts.Reached.the-variants.{Live}
 use Rattle.rows.specs.Stripped.{kernel-place}
 use Rattle.turns.specs.ChoiceNumbers.{Digits}
 use Rattle.turns.specs.Picking.{radix}

@@ -2,12 +2,9 @@
 use Prim.Native.Nat.{ℕ, zero, suc, _+_, _≤_, _<_}
 use mathlib.Core.Path.{_≡_, refl, sym, ap, _∙_}
 use mathlib.Core.Bool.{Bool, true, false}
-use mathlib.Core.List.{List, [], _∷_, _++_}
+use mathlib.Core.List.{List, _∷_, _++_}
 use native.Mathlib.Omega.{arith}
 use native.Mathlib.Nat.{add-zero}
-use types.Run.{OneOf, miss}
-use denote.Enum.Declared.{tagOf}
-use Rattle.rows.proofs.parts.Made.{the-type}
 use lib.ListN.{length, drop}
 use Rattle.room.specs.Room.{seg}
 use Rattle.terms.specs.Bounds.{Bounds, edition-one}
@@ -16,6 +13,8 @@ use Rattle.search.specs.declared.steps.Tails.{Tails}
 use Rattle.rows.specs.declared.parts.Rest.{Rest}
 use Rattle.rows.specs.declared.parts.Made.{Made}
 use Rattle.rows.specs.declared.parts.Made.the-variants.{Dead}
+use Rattle.rows.specs.declared.parts.Reached.{Reached}
+use Rattle.rows.specs.Made.{of-reached, reached-alive}
 use Rattle.rows.specs.Row.{becomes}
 use Rattle.choices.specs.declared.sides.Sides.{Sides}
 use Rattle.choices.specs.Digits.{PickParts, Advanced}
@@ -44,14 +43,10 @@ module _ (b : Bounds) (lent : ℕ) where
   told-dead dead e = refl
   told-dead (live st) e = absurd (never-dead b lent st e)
 
-  pub told-live : (node : Node) {a : Made} → a ≡ becomes b lent node → (a ≡ Dead → ⊥) → (st : State) × (node ≡ live st)
+  pub told-live : (node : Node) (a : Reached) → of-reached a ≡ becomes b lent node → (st : State) × (node ≡ live st)
   unfolding becomes
-  told-live dead e h = absurd (h e)
-  told-live (live st) e h = (st, refl)
-
--- it has another variant's tag
-pub not-dead : (a : Made) → OneOf (1 ∷ 2 ∷ 3 ∷ []) (tagOf the-type a) → a ≡ Dead → ⊥
-not-dead a h e = miss (1 ∷ 2 ∷ 3 ∷ []) 0 tt (rw e at h)
+  told-live dead a e = absurd (reached-alive a e)
+  told-live (live st) a e = (st, refl)
 
 -- ---- the loop
 
@@ -130,10 +125,10 @@ module _ {arities l : List ℕ} {at : ℕ} {rest : Rest} {sides : Sides} {kind :
       elsewhere = M .kept q (due h) (P .on .here .kind-is)
 
       -- a node that is no dead end
-      pub told-node : (a ≡ Dead → ⊥) → Picked arities l at rest sides kind first second lent next scratch most p (Found k a) r′
-      told-node alive =
+      pub told-node : (node : Reached) → a ≡ of-reached node → Picked arities l at rest sides kind first second lent next scratch most p (Found k node) r′
+      told-node node g =
           let N = M .makes q (due h) (P .on .here .kind-is) in
-          let S = told-live edition-one lent (child q) (N .tells) alive in
+          let S = told-live edition-one lent (child q) node (sym g ∙ N .tells) in
           record {
             long = N .long ∙ P .long;
             below = N .below ∙ P .below;
@@ -141,8 +136,8 @@ module _ {arities l : List ℕ} {at : ℕ} {rest : Rest} {sides : Sides} {kind :
             tells = then-live {k = k} (S .0) (drop (suc (place q)) (all-children p)) h (rw (S .1) at from-here) (record {
               long = N .long ∙ P .long;
               below = N .below ∙ P .below;
-              tells = N .tells ∙ ap (becomes edition-one lent) (S .1);
-              holds = λ st e f. N .holds st (S .1 ∙ e) f;
+              tells = sym g ∙ N .tells ∙ ap (becomes edition-one lent) (S .1);
+              holds = λ st e f. N .holds st (S .1 ∙ e) (g ∙ f);
             });
             further = λ j e. record { ds = P .on .ds; es = P .on .es; here = still elsewhere; place-at = P .on .place-at ∙ ap (λ (i : ℕ). place p + i) (found-same e) };
           }
@@ -223,7 +218,7 @@ module _ {arities l : List ℕ} {at : ℕ} {rest : Rest} {sides : Sides} {kind :
       first-asked = child-parts (none-passed P) h
 
       module _ {a : Made} {r : List ℕ} (M : ChildMade arities l at rest sides kind (at + (lent + 8)) lent next scratch a r) where
-        pub first-node : (a ≡ Dead → ⊥) → Picked arities l at rest sides kind first second lent next scratch most p (Found 0 a) r
+        pub first-node : (node : Reached) → a ≡ of-reached node → Picked arities l at rest sides kind first second lent next scratch most p (Found 0 node) r
         first-node = told-node (none-passed P) h M
 
         pub first-ended : a ≡ Dead → Ended arities r at rest sides kind first second lent next scratch most p

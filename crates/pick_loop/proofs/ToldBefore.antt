@@ -7,7 +7,7 @@ use native.Mathlib.Omega.{arith}
 use lib.ListN.{length}
 use Rattle.room.specs.Room.{seg}
 use Rattle.search.specs.State.{State, Node}
-use Rattle.rows.specs.declared.parts.Made.{Made}
+use Rattle.rows.specs.declared.parts.Reached.{Reached}
 use Rattle.only_child.specs.declared.next.Next.{Next}
 use Rattle.only_child.specs.declared.next.Next.the-variants.{Spent, Node as Found, Due}
 use Rattle.only_child.specs.Next.{Tells, all-dead, then-live, then-due, Kept}
@@ -15,13 +15,13 @@ use Rattle.pick_loop.specs.Shown.{Looks, Opens}
 
 -- ---- the variants differ
 
-pub spent-none : {k j : ℕ} {a : Made} → Spent k ≡ Found j a → ⊥
+pub spent-none : {k j : ℕ} {a : Reached} → Spent k ≡ Found j a → ⊥
 spent-none e = let z : _≡_ {A = ℕ} 0 1 = cc in omega arith
 
-pub due-none : {k j : ℕ} {a : Made} → Due k ≡ Found j a → ⊥
+pub due-none : {k j : ℕ} {a : Reached} → Due k ≡ Found j a → ⊥
 due-none e = let z : _≡_ {A = ℕ} 0 1 = cc in omega arith
 
-pub found-same : {k j : ℕ} {a b : Made} → Found k a ≡ Found j b → k ≡ j
+pub found-same : {k j : ℕ} {a b : Reached} → Found k a ≡ Found j b → k ≡ j
 found-same e = cc
 
 -- ---- the room before

@@ -13,7 +13,7 @@ use Rattle.search.specs.Children.{split}
 use Rattle.search.specs.declared.steps.Tails.{Tails}
 use Rattle.search.specs.declared.steps.Tails.the-variants.{Neither, Left, Right, Different, Same}
 use Rattle.rows.specs.declared.parts.Rest.{Rest}
-use Rattle.rows.specs.declared.parts.Made.the-variants.{Live}
+use Rattle.rows.specs.declared.parts.Reached.the-variants.{Live}
 use Rattle.turns.specs.ChoiceNumbers.{Digits}
 use Rattle.turns.specs.Picking.{radix, child-number}
 use Rattle.choices.specs.declared.sides.Sides.{Sides}

@@ -14,7 +14,7 @@ use Rattle.search.specs.State.{State, pend, size-equations, size-named, state-s
 use Rattle.search.specs.Classify.{classify}
 use Rattle.search.specs.declared.steps.Tails.{Tails}
 use Rattle.search.specs.declared.steps.Step.the-variants.{Split}
-use Rattle.rows.specs.declared.parts.Made.the-variants.{Live}
+use Rattle.rows.specs.declared.parts.Reached.the-variants.{Live}
 use Rattle.turns.specs.ChoiceNumbers.{Digits}
 use Rattle.turns.specs.Picking.{radix}
 use Rattle.choices.specs.Digits.{copies}

@@ -6,6 +6,7 @@ use choices::sides::Sides;
 use only_child::next::Next;
 use rows::header::HEADER;
 use rows::parts::Made;
+use rows::parts::Reached;
 use rows::parts::Rest;
 use search::steps::Tails;
 use splits::split::split;
@@ -54,7 +55,9 @@ fn pick_after(
                     return Next::Spent(k);
                 }
             }
-            Made::Names | Made::Large | Made::Live => return Next::Node(k, made),
+            Made::Names => return Next::Node(k, Reached::Names),
+            Made::Large => return Next::Node(k, Reached::Large),
+            Made::Live => return Next::Node(k, Reached::Live),
         }
     }
     Next::Due(k)
@@ -109,6 +112,8 @@ pub fn pick_from(
             scratch,
             most,
         ),
-        Made::Names | Made::Large | Made::Live => Next::Node(0, made),
+        Made::Names => Next::Node(0, Reached::Names),
+        Made::Large => Next::Node(0, Reached::Large),
+        Made::Live => Next::Node(0, Reached::Live),
     }
 }

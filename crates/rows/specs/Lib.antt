@@ -1,3 +1,4 @@
+pub mod Made
 pub mod Ended
 pub mod Stripped
 pub mod Flat

@@ -7,7 +7,8 @@
 //     parts   what the code of a step passes on
 //
 // In specs/, `Row` says which words a state has in a row, and what a step is to write; `Pile` and `States` are the words of a pile and of a state,
-// `Stepping` ties a step in words to `classify`, `Bind` and `Finished` are the words of a row in which an unknown is bound.
+// `Stepping` ties a step in words to `classify`, `Bind` and `Finished` are the words of a row in which an unknown is bound; `Made` has what became of a
+// node, where not every case can come, as one of all.
 
 pub mod first;
 pub mod header;

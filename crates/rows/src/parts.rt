@@ -11,6 +11,13 @@ pub enum Made {
     Live,
 }
 
+// What became of a due node that is no dead end.
+pub enum Reached {
+    Names,
+    Large,
+    Live,
+}
+
 // The rest of a row's body: where it begins, the words of its pending equations, of its pile and of its bindings, and the number of these.
 pub struct Rest {
     pub at: usize,

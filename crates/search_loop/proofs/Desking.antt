@@ -6,7 +6,7 @@ use mathlib.Core.Bool.{true, false, cond}
 use mathlib.Core.List.{List, _∷_}
 use native.Mathlib.Omega.{arith}
 use Rattle.search.specs.declared.limits.Limits.{Limits}
-use Rattle.rows.specs.declared.parts.Made.the-variants.{Live}
+use Rattle.rows.specs.declared.parts.Reached.the-variants.{Live}
 use Rattle.results.specs.declared.ran.Record.{Record}
 use Rattle.only_child.specs.declared.next.Looked.{Looked}
 use Rattle.only_child.specs.declared.next.Next.the-variants.{Node as Found}

@@ -8,8 +8,8 @@ use lib.ListN.{length, take, drop}
 use Rattle.room.specs.Room.{seg}
 use Rattle.search.specs.declared.limits.Limits.{Limits}
 use Rattle.search.specs.State.{State}
-use Rattle.rows.specs.declared.parts.Made.{Made}
-use Rattle.rows.specs.declared.parts.Made.the-variants.{Dead, Names as ManyNames, Large, Live}
+use Rattle.rows.specs.declared.parts.Reached.{Reached}
+use Rattle.rows.specs.declared.parts.Reached.the-variants.{Names as ManyNames, Large, Live}
 use Rattle.results.specs.declared.ran.Record.{Record}
 use Rattle.record.specs.Counts.{counted}
 use Rattle.only_child.specs.declared.next.Looked.{Looked}
@@ -24,7 +24,7 @@ use Rattle.visits.specs.DueNode.{OpenParts, most-of, back-to, due-ending, node-
 use Rattle.search_loop.specs.Running.{Given, scratch-of, Running, Turned}
 use Rattle.search_loop.proofs.Desking.{looking, open-then-spent, open-then-live}
 use Rattle.search_loop.proofs.OpenedNode.{live-parts, turned-live}
-use Rattle.search_loop.proofs.UnopenedNode.{turned-names, turned-large, turned-dead}
+use Rattle.search_loop.proofs.UnopenedNode.{turned-names, turned-large}
 use Rattle.search_loop.proofs.GoesOn.{row-here}
 use Rattle.search_loop.proofs.Turning.{Told, told-few, due-few, node-few, turned-spent, turned-due}
 
@@ -58,7 +58,7 @@ module _ {arities : List ℕ} {limits : Limits} {l a : List ℕ} {level shown : 
       pub due-few-steps : {k : ℕ} → x .next ≡ Due k → r .visited + k ≤ 1000000000
       due-few-steps e = omega (arith, due-few R (rw e at heard), R .steps, R .suits .steps)
 
-      pub node-few-steps : {k : ℕ} {node : Made} → x .next ≡ Found k node → (r .visited + k ≤ 1000000000) × (n + k ≤ 1000000000)
+      pub node-few-steps : {k : ℕ} {node : Reached} → x .next ≡ Found k node → (r .visited + k ≤ 1000000000) × (n + k ≤ 1000000000)
       node-few-steps e =
           let f = node-few R (rw e at heard) in
           let p = row-here R .passed in
@@ -70,18 +70,17 @@ module _ {arities : List ℕ} {limits : Limits} {l a : List ℕ} {level shown : 
       pub hears-due : {k shown₁ : ℕ} {d : Ending} {c : Record} → x .next ≡ Due k → c ≡ counted r k → d ≡ due-ending limits c → Turned arities limits l₁ a level r to (End d) shown₁
       hears-due e f g = rw (g, f) (turned-due R (rw e at heard))
 
-      pub hears-parts : {k : ℕ} {node : Made} {c : Record} → x .next ≡ Found k node → c ≡ counted r k → node ≡ Live → OpenParts limits level l₁ a c (n + k)
+      pub hears-parts : {k : ℕ} {node : Reached} {c : Record} → x .next ≡ Found k node → c ≡ counted r k → node ≡ Live → OpenParts limits level l₁ a c (n + k)
       hears-parts {k} {node} e f g = rw (f, is-number) (live-parts R (rw (e, g) at heard))
 
-      by-node : {k : ℕ} (node : Made) → x .next ≡ Found k node → Told R (Found k node) l₁
+      by-node : {k : ℕ} (node : Reached) → x .next ≡ Found k node → Told R (Found k node) l₁
           → Turned arities limits (node-room limits level l₁ (R .top .child + k) node) (node-answers limits level l₁ a (counted r k) node) level r to (node-turn limits level l₁ (length a) (counted r k) node) (cond (x .opens) (level + 1) shown)
       unfolding node-room node-answers node-turn
-      by-node Dead e C = turned-dead R C
       by-node ManyNames e C = turned-names R C
       by-node Large e C = turned-large R C
       by-node Live e C = turned-live R C (open-then-live R looks (says .1) e)
 
-      pub hears-node : {k shown₁ : ℕ} {node : Made} {c : Record} {t : Turn} {l₂ a₂ : List ℕ} → x .next ≡ Found k node → c ≡ counted r k
+      pub hears-node : {k shown₁ : ℕ} {node : Reached} {c : Record} {t : Turn} {l₂ a₂ : List ℕ} → x .next ≡ Found k node → c ≡ counted r k
           → (t ≡ node-turn limits level l₁ (length a) c node) × ((l₂ ≡ node-room limits level l₁ (n + k) node) × (a₂ ≡ node-answers limits level l₁ a c node))
           → shown₁ ≡ cond (x .opens) (level + 1) shown → Turned arities limits l₂ a₂ level r to t shown₁
       hears-node {k} {node = node} e f g s = rw (g .0, g .1 .0, g .1 .1, f, s, is-number) (by-node node e (rw e at heard))

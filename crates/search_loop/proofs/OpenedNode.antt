@@ -21,7 +21,8 @@ use Rattle.invariants.specs.Orderly.{Orderly}
 use Rattle.invariants.specs.Tree.{orderly-children, Live as Is-live, is-live}
 use Rattle.search.specs.Verdicts.{allowed}
 use Rattle.turns.specs.Going.{Open, resumed, left, to-come, run-goes-on, run-overflows}
-use Rattle.rows.specs.declared.parts.Made.the-variants.{Live}
+use Rattle.rows.specs.declared.parts.Reached.the-variants.{Live}
+use Rattle.rows.specs.Made.{of-reached}
 use Rattle.rows.specs.Row.{Fresh, Makes}
 use Rattle.results.specs.declared.ran.Record.{Record}
 use Rattle.record.specs.Counts.{counted, with-answers, fits, answer-in, note-by, held-by}
@@ -92,17 +93,20 @@ live-orderly (is-live o) = o
 module _ {arities : List ℕ} {limits : Limits} {l a : List ℕ} {level shown : ℕ} {r : Record} {to : Given} (R : Running arities limits l a level shown r to) {k : ℕ} {l₁ : List ℕ}
     (long : length l₁ ≡ length l) (below : seg l₁ 0 (child-place limits level) ≡ seg l 0 (child-place limits level)) (next : State) (rest : List Node)
     (h : k < most-of limits level r) (e : drop (R .top .child) (children (R .top .state)) ≡ dead-ends k ++ (live next ∷ rest))
-    (M : Makes edition-one l (child-place limits level) (limits .size) (live next) Live l₁) where
+    (M : Makes edition-one l (child-place limits level) (limits .size) (live next) (of-reached Live) l₁) where
   abbrev at : ℕ
   at = level * (limits .size + 8)
 
   fresh : Fresh edition-one l₁ (child-place limits level) next
+  unfolding of-reached
   fresh = M .holds next refl refl
 
   few : next .next ≤ edition-one .path-unknowns
+  unfolding of-reached
   few = few-names edition-one (limits .size) next (M .tells) (λ q. let z : _≡_ {A = ℕ} 0 1 = cc in omega arith)
 
   small : state-size next ≤ limits .size
+  unfolding of-reached
   small = small-enough edition-one (limits .size) next (M .tells)
 
   orderly : Orderly arities next

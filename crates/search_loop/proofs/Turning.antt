@@ -19,7 +19,7 @@ use Rattle.search.specs.Children.{children}
 use Rattle.search.specs.Run.{Visit, visit, dead-visit, stops, verdict, scan}
 use Rattle.turns.specs.Going.{Open, resumed, left, to-come, to-come-spent, to-come-dead, to-come-live, run-stops}
 use Rattle.turns.specs.ChoiceNumbers.{drop-next}
-use Rattle.rows.specs.declared.parts.Made.{Made}
+use Rattle.rows.specs.declared.parts.Reached.{Reached}
 use Rattle.results.specs.declared.ran.Record.{Record}
 use Rattle.record.specs.Counts.{counted}
 use Rattle.only_child.specs.declared.next.Next.{Next}
@@ -105,10 +105,10 @@ module _ {arities : List ℕ} {limits : Limits} {l a : List ℕ} {level shown : 
       go : {ns : List Node} {l₁ : List ℕ} {k : ℕ} → Tells l (level * stride + stride) (limits .size) ns most l₁ (Due k) → k ≤ limits .steps - r .visited
       go (then-due node rest h e) = omega (arith, most-few limits level r)
 
-  pub node-few : {k : ℕ} {m : Made} {l₁ : List ℕ} → Told (Found k m) l₁ → k < limits .steps - r .visited
+  pub node-few : {k : ℕ} {m : Reached} {l₁ : List ℕ} → Told (Found k m) l₁ → k < limits .steps - r .visited
   node-few C = go (C .tells)
     where
-      go : {ns : List Node} {l₁ : List ℕ} {k : ℕ} {m : Made} → Tells l (level * stride + stride) (limits .size) ns most l₁ (Found k m) → k < limits .steps - r .visited
+      go : {ns : List Node} {l₁ : List ℕ} {k : ℕ} {m : Reached} → Tells l (level * stride + stride) (limits .size) ns most l₁ (Found k m) → k < limits .steps - r .visited
       go (then-live next rest h e M) = omega (arith, most-few limits level r)
 
   -- no child is left

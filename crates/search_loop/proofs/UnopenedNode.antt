@@ -12,11 +12,12 @@ use Rattle.search.specs.Children.{children}
 use Rattle.search.specs.Run.{Visit, visit}
 use Rattle.turns.specs.Going.{left, to-come, to-come-live}
 use Rattle.turns.specs.ChoiceNumbers.{drop-next}
-use Rattle.rows.specs.declared.parts.Made.the-variants.{Dead, Names as ManyNames, Large}
+use Rattle.rows.specs.declared.parts.Reached.the-variants.{Names as ManyNames, Large}
+use Rattle.rows.specs.Made.{of-reached}
 use Rattle.results.specs.declared.ran.Record.{Record}
 use Rattle.record.specs.Counts.{counted}
 use Rattle.only_child.specs.declared.next.Next.the-variants.{Node as Found}
-use Rattle.only_child.specs.Became.{many-names, few-names, too-large, never-dead}
+use Rattle.only_child.specs.Became.{many-names, few-names, too-large}
 use Rattle.only_child.specs.Next.{dead-ends, Tells, then-live}
 use Rattle.visits.specs.declared.node.Turn.the-variants.{End}
 use Rattle.search_loop.specs.ChildrenPassed.{names-stop, large-stops}
@@ -50,7 +51,7 @@ module _ {arities : List ℕ} {limits : Limits} {l a : List ℕ} {level shown : 
   open-to k h = (omega (arith, most-few limits level r), omega (arith, most-deep limits level r (omega arith), R .levels))
 
   pub turned-names : {k shown₁ : ℕ} {l₁ : List ℕ} → Told R (Found k ManyNames) l₁ → Turned arities limits l₁ a level r to (End (record { end = Names; counts = counted r k })) shown₁
-  unfolding visit
+  unfolding visit of-reached
   turned-names {k} {shown₁} {l₁} C = go (C .tells)
     where
       go : {l₂ : List ℕ} → Tells l (level * (limits .size + 8) + (limits .size + 8)) (limits .size) (drop (R .top .child) (children (R .top .state))) (most-of limits level r) l₂ (Found k ManyNames)
@@ -61,7 +62,7 @@ module _ {arities : List ℕ} {limits : Limits} {l a : List ℕ} {level shown : 
           (names-stop edition-one (left (loan limits (length a)) (r .visited + k) (r .words)) (next-visit next) (o .0) (o .1) (many-names edition-one (limits .size) next (M .tells))))
 
   pub turned-large : {k shown₁ : ℕ} {l₁ : List ℕ} → Told R (Found k Large) l₁ → Turned arities limits l₁ a level r to (End (record { end = Size; counts = counted r k })) shown₁
-  unfolding visit left loan
+  unfolding visit left loan of-reached
   turned-large {k} {shown₁} {l₁} C = go (C .tells)
     where
       go : {l₂ : List ℕ} → Tells l (level * (limits .size + 8) + (limits .size + 8)) (limits .size) (drop (R .top .child) (children (R .top .state))) (most-of limits level r) l₂ (Found k Large)
@@ -71,10 +72,3 @@ module _ {arities : List ℕ} {limits : Limits} {l a : List ℕ} {level shown : 
           let n = few-names edition-one (limits .size) next (M .tells) (λ q. let z : _≡_ {A = ℕ} 0 1 = cc in omega arith) in
           ends (met next rest k h e ∙ stops-here limits (counted r k) a (next-visit next) _ Size
           (large-stops edition-one (left (loan limits (length a)) (r .visited + k) (r .words)) (next-visit next) (o .0) (o .1) n (too-large edition-one (limits .size) next (M .tells))))
-
-  -- what is told is no dead end
-  pub turned-dead : {k : ℕ} {l₁ : List ℕ} {P : Type 0} → Told R (Found k Dead) l₁ → P
-  turned-dead {k} {l₁} {P} C = go (C .tells)
-    where
-      go : {l₂ : List ℕ} → Tells l (level * (limits .size + 8) + (limits .size + 8)) (limits .size) (drop (R .top .child) (children (R .top .state))) (most-of limits level r) l₂ (Found k Dead) → P
-      go (then-live next rest h e M) = absurd (never-dead edition-one (limits .size) next (M .tells))

@@ -8,7 +8,7 @@ use lib.ListN.{length, take, drop}
 use Rattle.room.specs.Room.{seg, put}
 use Rattle.search.specs.declared.ends.End.the-variants.{Space}
 use Rattle.search.specs.declared.limits.Limits.{Limits}
-use Rattle.rows.specs.declared.parts.Made.the-variants.{Live}
+use Rattle.rows.specs.declared.parts.Reached.the-variants.{Live}
 use Rattle.results.specs.declared.ran.Record.{Record}
 use Rattle.record.specs.declared.Noted.{Noted}
 use Rattle.record.specs.declared.Noted.the-variants.{Held, Space as NoSpace}

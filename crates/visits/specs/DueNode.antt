@@ -7,8 +7,8 @@ use lib.ListN.{length}
 use Rattle.room.specs.Room.{seg, put}
 use Rattle.search.specs.declared.ends.End.the-variants.{Done, Steps, Depth, Names, Size, Space}
 use Rattle.search.specs.declared.limits.Limits.{Limits}
-use Rattle.rows.specs.declared.parts.Made.{Made}
-use Rattle.rows.specs.declared.parts.Made.the-variants.{Dead, Names as ManyNames, Large, Live}
+use Rattle.rows.specs.declared.parts.Reached.{Reached}
+use Rattle.rows.specs.declared.parts.Reached.the-variants.{Names as ManyNames, Large, Live}
 use Rattle.results.specs.declared.ran.Record.{Record}
 use Rattle.record.specs.declared.Noted.{Noted}
 use Rattle.record.specs.declared.Noted.the-variants.{Held, Space as NoSpace}
@@ -40,20 +40,17 @@ abbrev pub child-row : Limits → ℕ → List ℕ → List ℕ
 child-row limits level l = seg l (child-place limits level) (limits .size + 8)
 
 -- what becomes of a node: the turn, the room with the number of the child after it, and the answer words
-unfoldable pub node-turn : Limits → ℕ → List ℕ → (space : ℕ) → Record → Made → Turn
-node-turn limits level l space r Dead = End (record { end = Done; counts = r })
+unfoldable pub node-turn : Limits → ℕ → List ℕ → (space : ℕ) → Record → Reached → Turn
 node-turn limits level l space r ManyNames = End (record { end = Names; counts = r })
 node-turn limits level l space r Large = End (record { end = Size; counts = r })
 node-turn limits level l space r Live = noted-turn level (counted r 1) (note-by (answer-in (child-row limits level l)) space (counted r 1))
 
-unfoldable pub node-room : Limits → ℕ → List ℕ → ℕ → Made → List ℕ
-node-room limits level l number Dead = l
+unfoldable pub node-room : Limits → ℕ → List ℕ → ℕ → Reached → List ℕ
 node-room limits level l number ManyNames = l
 node-room limits level l number Large = l
 node-room limits level l number Live = put l (level * (limits .size + 8) + 5) (number-words (number + 1))
 
-unfoldable pub node-answers : Limits → ℕ → List ℕ → List ℕ → Record → Made → List ℕ
-node-answers limits level l a r Dead = a
+unfoldable pub node-answers : Limits → ℕ → List ℕ → List ℕ → Record → Reached → List ℕ
 node-answers limits level l a r ManyNames = a
 node-answers limits level l a r Large = a
 node-answers limits level l a r Live = held-by (answer-in (child-row limits level l)) a (counted r 1)

@@ -2,7 +2,7 @@
 ghost use mathlib.Core.Path.{_≡_};
 ghost use Prim.Native.Nat.{_≤_};
 ghost use lib.ListN.{length};
-ghost use Rattle.rows.specs.declared.parts.Made.the-variants as kinds;
+ghost use Rattle.rows.specs.declared.parts.Reached.the-variants as kinds;
 ghost use Rattle.visits.specs.DueNode.{OpenParts, most-of, back-to, due-ending, node-turn, node-room, node-answers};
 use crate::number::set_number;
 use record::Noted;
@@ -11,7 +11,7 @@ use record::with_nodes;
 use results::ran::Ending;
 use results::ran::Record;
 use rows::header::HEADER;
-use rows::parts::Made;
+use rows::parts::Reached;
 use search::ends::End;
 use search::limits::Limits;
 
@@ -98,7 +98,7 @@ pub fn meet(
     level: usize,
     counts: Record,
     number: usize,
-    node: Made,
+    node: Reached,
 ) -> Turn
     requires { ⌜ (node ≡ kinds.Live → OpenParts limits level (now room) (now answers) counts number) ⌝ }
     ensures { λ r. ⌜ r ≡ node-turn limits level (now (room .entry)) (length (now (answers .entry))) counts node ⌝ }
@@ -106,17 +106,13 @@ pub fn meet(
     ensures { λ _. ⌜ now (answers .exit) ≡ node-answers limits level (now (room .entry)) (now (answers .entry)) counts node ⌝ }
 {
     match node {
-        Made::Live => enter(limits, answers, room, level, counts, number),
-        Made::Names => Turn::End(Ending {
+        Reached::Live => enter(limits, answers, room, level, counts, number),
+        Reached::Names => Turn::End(Ending {
             end: End::Names,
             counts,
         }),
-        Made::Large => Turn::End(Ending {
+        Reached::Large => Turn::End(Ending {
             end: End::Size,
-            counts,
-        }),
-        Made::Dead => Turn::End(Ending {
-            end: End::Done,
             counts,
         }),
     }

@@ -3,9 +3,11 @@ use Prim.Native.Nat.{ℕ, _-_}
 use mathlib.Core.List.{List}
 use native.Mathlib.Omega.{arith}
 use borrow.Author.Tests.{not-true, not-false}
+use Rattle.rows.specs.Made.{of-reached}
+use Rattle.rows.specs.declared.parts.Reached.the-variants as reached
 use borrow.Author.Needs.{needs}
 use Rattle.choices.specs.OpenParent.{Parent}
-use Rattle.pick_loop.proofs.PassedDead.{Passed, child-parts, elsewhere, made-dead, dead-parts, told-due, told-node, told-spent, passed-again, first-parts, first-spent, first-passed, not-dead}
+use Rattle.pick_loop.proofs.PassedDead.{Passed, child-parts, elsewhere, made-dead, dead-parts, told-due, told-node, told-spent, passed-again, first-parts, first-spent, first-passed}
 use Rattle.pick_loop.proofs.Repicking.{numbers}
 use Rattle.pick_loop.proofs.pass.pick_after.Statement.{statement}
 use Rattle.pick_loop.proofs.pass.pick_after.Tie as tie
@@ -83,17 +85,41 @@ loop-again c = λ l p Q.
     let M = c .before .before .before .before .before .before .before .before .before .split .ensures in
     passed-again P t (elsewhere P t M) (made-dead P t M (c .before .before .before .before .before .enum-told .given .1)) (c .before .before .before .advance2 .ensures) (not-false _ (c .if2 .left))
 
+enum-told-2 : tie.Need-enum-told-2 Inv-loop μ-loop
+enum-told-2 c = search needs
+
 returns-3 : tie.Need-returns-3 Inv-loop μ-loop
-returns-3 c = λ p E. told-node (c .before .before .before .before .before .before .loop .inv _ p (first-passed E (c .before .before .before .before .before .before .before .before .before .before .advance .ensures) (not-false _ (c .before .before .before .before .before .before .before .if1 .left)))) (c .before .before .before .before .before .loop-test .taken) (c .before .before .before .split .ensures) (not-dead _ (c .match .keys2))
+unfolding of-reached
+returns-3 c = λ p E. told-node (c .before .before .before .before .before .before .before .loop .inv _ p (first-passed E (c .before .before .before .before .before .before .before .before .before .before .before .advance .ensures) (not-false _ (c .before .before .before .before .before .before .before .before .if1 .left)))) (c .before .before .before .before .before .before .loop-test .taken) (c .before .before .before .before .split .ensures) reached.Names (c .enum-told2 .given .1)
 
 same-length-3 : tie.Need-same-length-3 Inv-loop μ-loop
-same-length-3 c = returns-3 c (c .before .before .before .before .before .before .before .before .before .before .before .before .before .before .pre .p) (c .before .before .before .before .before .before .before .before .before .before .before .before .before .before .pre .here) .long
+same-length-3 c = returns-3 c (c .before .before .before .before .before .before .before .before .before .before .before .before .before .before .before .pre .p) (c .before .before .before .before .before .before .before .before .before .before .before .before .before .before .before .pre .here) .long
+
+enum-told-3 : tie.Need-enum-told-3 Inv-loop μ-loop
+enum-told-3 c = search needs
 
 returns-4 : tie.Need-returns-4 Inv-loop μ-loop
-returns-4 c = λ p E. told-due (c .before .loop .inv _ p (first-passed E (c .before .before .before .before .before .advance .ensures) (not-false _ (c .before .before .if1 .left)))) (c .loop-test .left)
+unfolding of-reached
+returns-4 c = λ p E. told-node (c .before .before .before .before .before .before .before .loop .inv _ p (first-passed E (c .before .before .before .before .before .before .before .before .before .before .before .advance .ensures) (not-false _ (c .before .before .before .before .before .before .before .before .if1 .left)))) (c .before .before .before .before .before .before .loop-test .taken) (c .before .before .before .before .split .ensures) reached.Large (c .enum-told3 .given .1)
 
 same-length-4 : tie.Need-same-length-4 Inv-loop μ-loop
-same-length-4 c = returns-4 c (c .before .before .before .before .before .before .before .before .before .pre .p) (c .before .before .before .before .before .before .before .before .before .pre .here) .long
+same-length-4 c = returns-4 c (c .before .before .before .before .before .before .before .before .before .before .before .before .before .before .before .pre .p) (c .before .before .before .before .before .before .before .before .before .before .before .before .before .before .before .pre .here) .long
+
+enum-told-4 : tie.Need-enum-told-4 Inv-loop μ-loop
+enum-told-4 c = search needs
+
+returns-5 : tie.Need-returns-5 Inv-loop μ-loop
+unfolding of-reached
+returns-5 c = λ p E. told-node (c .before .before .before .before .before .before .before .loop .inv _ p (first-passed E (c .before .before .before .before .before .before .before .before .before .before .before .advance .ensures) (not-false _ (c .before .before .before .before .before .before .before .before .if1 .left)))) (c .before .before .before .before .before .before .loop-test .taken) (c .before .before .before .before .split .ensures) reached.Live (c .enum-told4 .given .1)
+
+same-length-5 : tie.Need-same-length-5 Inv-loop μ-loop
+same-length-5 c = returns-5 c (c .before .before .before .before .before .before .before .before .before .before .before .before .before .before .before .pre .p) (c .before .before .before .before .before .before .before .before .before .before .before .before .before .before .before .pre .here) .long
+
+returns-6 : tie.Need-returns-6 Inv-loop μ-loop
+returns-6 c = λ p E. told-due (c .before .loop .inv _ p (first-passed E (c .before .before .before .before .before .advance .ensures) (not-false _ (c .before .before .if1 .left)))) (c .loop-test .left)
+
+same-length-6 : tie.Need-same-length-6 Inv-loop μ-loop
+same-length-6 c = returns-6 c (c .before .before .before .before .before .before .before .before .before .pre .p) (c .before .before .before .before .before .before .before .before .before .pre .here) .long
 
 pub pick-after-spec : {M : Type 1} → statement M
 pick-after-spec =
@@ -119,7 +145,14 @@ pick-after-spec =
     returns-2
     loop-less
     loop-again
+    enum-told-2
     same-length-3
     returns-3
+    enum-told-3
     same-length-4
-    returns-4)
+    returns-4
+    enum-told-4
+    same-length-5
+    returns-5
+    same-length-6
+    returns-6)

@@ -17,9 +17,6 @@ enum-told-2 c = search needs
 enum-told-3 : tie.Need-enum-told-3
 enum-told-3 c = search needs
 
-enum-told-4 : tie.Need-enum-told-4
-enum-told-4 c = search needs
-
 same-length : tie.Need-same-length
 same-length c = search needs
 
@@ -37,10 +34,6 @@ returns-3 : tie.Need-returns-3
 unfolding node-turn node-room node-answers
 returns-3 c = rw (c .enum-told3 .given .1) (refl, (refl, refl))
 
-returns-4 : tie.Need-returns-4
-unfolding node-turn node-room node-answers
-returns-4 c = rw (c .enum-told4 .given .1) (refl, (refl, refl))
-
 pub meet-spec : {M : Type 1} → statement M
 meet-spec =
     tie.close
@@ -49,10 +42,8 @@ meet-spec =
     enter-requires
     enum-told-2
     enum-told-3
-    enum-told-4
     same-length
     same-length-2
     returns
     returns-2
-    returns-3
-    returns-4)
+    returns-3)
