@@ -6,6 +6,7 @@ ghost use mathlib.Core.List.{_++_};
 ghost use lib.ListN.{length};
 ghost use Rattle.rows.specs.Bind.{BindParts, FinishParts, pending-piece, pile-piece, last-piece, bound-piece};
 ghost use Rattle.rows.specs.Header.{header-of};
+ghost use Rattle.rows.specs.Made.{of-sized};
 ghost use Rattle.rows.specs.Finished.{Finished, bound-header};
 use crate::pile::replace_others;
 use crate::pile::replace_released;
@@ -13,8 +14,8 @@ use replace::Copied;
 use rows::header::HEADER;
 use rows::header::Header;
 use rows::header::seal;
-use rows::parts::Made;
 use rows::parts::Rest;
+use rows::parts::Sized;
 use terms::bounds::FIRST_UNKNOWN;
 
 // The pending equations, then the released entries, which are those of x.
@@ -90,9 +91,9 @@ fn finish_bindings(
     pile: usize,
     size: usize,
     next: usize,
-) -> Made
+) -> Sized
     requires { ⌜ FinishParts (now room) rest by m to (pending + pile) size x next ⌝ }
-    ensures { λ r. ⌜ Finished (now (room .entry)) to (pending + pile) size (last-piece (now (room .entry)) rest x by m) (header-of (bound-header rest pending pile m next)) r (now (room .exit)) ⌝ }
+    ensures { λ r. ⌜ Finished (now (room .entry)) to (pending + pile) size (last-piece (now (room .entry)) rest x by m) (header-of (bound-header rest pending pile m next)) (of-sized r) (now (room .exit)) ⌝ }
 {
     let start = pending + pile;
     match bind_last(room, rest, x, by, m, to + HEADER + start, size - start) {
@@ -110,9 +111,9 @@ fn finish_bindings(
                     next,
                 },
             );
-            Made::Live
+            Sized::Live
         }
-        Copied::Full => Made::Large,
+        Copied::Full => Sized::Large,
     }
 }
 
@@ -128,9 +129,9 @@ pub fn finish_pile(
     pending: usize,
     size: usize,
     next: usize,
-) -> Made
+) -> Sized
     requires { ⌜ FinishParts (now room) rest by m to pending size x next ⌝ }
-    ensures { λ r. ⌜ Finished (now (room .entry)) to pending size (pile-piece edition-one (now (arities .entry)) (now (room .entry)) rest x by m ++ last-piece (now (room .entry)) rest x by m) (header-of (bound-header rest pending (length (pile-piece edition-one (now (arities .entry)) (now (room .entry)) rest x by m)) m next)) r (now (room .exit)) ⌝ }
+    ensures { λ r. ⌜ Finished (now (room .entry)) to pending size (pile-piece edition-one (now (arities .entry)) (now (room .entry)) rest x by m ++ last-piece (now (room .entry)) rest x by m) (header-of (bound-header rest pending (length (pile-piece edition-one (now (arities .entry)) (now (room .entry)) rest x by m)) m next)) (of-sized r) (now (room .exit)) ⌝ }
 {
     let at = rest.at + rest.pending;
     match replace_others(
@@ -145,7 +146,7 @@ pub fn finish_pile(
         size - pending,
     ) {
         Copied::Done(k) => finish_bindings(room, rest, x, by, m, to, pending, k, size, next),
-        Copied::Full => Made::Large,
+        Copied::Full => Sized::Large,
     }
 }
 
@@ -161,9 +162,9 @@ pub fn finish(
     written: usize,
     size: usize,
     next: usize,
-) -> Made
+) -> Sized
     requires { ⌜ FinishParts (now room) rest by m to written size x next ⌝ }
-    ensures { λ r. ⌜ Finished (now (room .entry)) to written size (bound-piece edition-one (now (arities .entry)) (now (room .entry)) rest x by m) (header-of (bound-header rest (written + length (pending-piece edition-one (now (arities .entry)) (now (room .entry)) rest x by m)) (length (pile-piece edition-one (now (arities .entry)) (now (room .entry)) rest x by m)) m next)) r (now (room .exit)) ⌝ }
+    ensures { λ r. ⌜ Finished (now (room .entry)) to written size (bound-piece edition-one (now (arities .entry)) (now (room .entry)) rest x by m) (header-of (bound-header rest (written + length (pending-piece edition-one (now (arities .entry)) (now (room .entry)) rest x by m)) (length (pile-piece edition-one (now (arities .entry)) (now (room .entry)) rest x by m)) m next)) (of-sized r) (now (room .exit)) ⌝ }
 {
     match bind_pending(
         arities,
@@ -176,6 +177,6 @@ pub fn finish(
         size - written,
     ) {
         Copied::Done(k) => finish_pile(arities, room, rest, x, by, m, to, written + k, size, next),
-        Copied::Full => Made::Large,
+        Copied::Full => Sized::Large,
     }
 }

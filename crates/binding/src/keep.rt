@@ -2,14 +2,15 @@
 ghost use Rattle.rows.specs.Wrote.{Wrote};
 ghost use Rattle.rows.specs.Bind.{BindParts, FinishParts};
 ghost use Rattle.rows.specs.Header.{header-of};
+ghost use Rattle.rows.specs.Made.{of-sized};
 ghost use Rattle.rows.specs.Finished.{Finished};
 ghost use Rattle.binding.specs.Keep.{kept-piece, kept-header};
 use replace::Copied;
 use rows::header::HEADER;
 use rows::header::Header;
 use rows::header::seal;
-use rows::parts::Made;
 use rows::parts::Rest;
+use rows::parts::Sized;
 
 // The pending equations and the pile, the m words at `by`, then the bindings.
 fn keep_rest(
@@ -45,9 +46,9 @@ pub fn keep(
     written: usize,
     size: usize,
     next: usize,
-) -> Made
+) -> Sized
     requires { ⌜ FinishParts (now room) rest by m to written size 1000 next ⌝ }
-    ensures { λ r. ⌜ Finished (now (room .entry)) to written size (kept-piece (now (room .entry)) rest by m) (header-of (kept-header rest written m next)) r (now (room .exit)) ⌝ }
+    ensures { λ r. ⌜ Finished (now (room .entry)) to written size (kept-piece (now (room .entry)) rest by m) (header-of (kept-header rest written m next)) (of-sized r) (now (room .exit)) ⌝ }
 {
     match keep_rest(room, rest, by, m, to + HEADER + written, size - written) {
         Copied::Done(k) => {
@@ -66,8 +67,8 @@ pub fn keep(
                     next,
                 },
             );
-            Made::Live
+            Sized::Live
         }
-        Copied::Full => Made::Large,
+        Copied::Full => Sized::Large,
     }
 }

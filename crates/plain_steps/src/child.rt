@@ -8,6 +8,7 @@ use rows::first::Subject;
 use rows::header::HEADER;
 use rows::parts::Made;
 use rows::parts::Rest;
+use rows::parts::of_sized;
 use rows::walk::terms_after;
 use search::steps::Step;
 
@@ -31,19 +32,19 @@ pub fn take_step(
     ensures { λ r. ⌜ Taken (now (arities .entry)) (now (room .entry)) from to scratch size right end next rest subject step r (now (room .exit)) ⌝ }
 {
     match step {
-        Step::Drop => keep(room, rest, from, 0, to, 0, size, next),
+        Step::Drop => of_sized(keep(room, rest, from, 0, to, 0, size, next)),
         Step::Bind(_) => {
             let by = subject.by;
             let m = subject.m;
-            finish(arities, room, rest, subject.x, by, m, to, 0, size, next)
+            of_sized(finish(arities, room, rest, subject.x, by, m, to, 0, size, next))
         }
-        Step::Postpone(_) => postpone(room, rest, subject, scratch, to, size, next),
+        Step::Postpone(_) => of_sized(postpone(room, rest, subject, scratch, to, size, next)),
         Step::Decompose => {
             let body = from + HEADER;
             let k = terms_after(arities, room[body]);
             let left = body + 1;
             let other = body + right + 1;
-            decompose(
+            of_sized(decompose(
                 arities,
                 room,
                 rest,
@@ -55,7 +56,7 @@ pub fn take_step(
                 to,
                 size,
                 next,
-            )
+            ))
         }
         Step::Split(_) => Made::Dead,
         Step::Dead => Made::Dead,

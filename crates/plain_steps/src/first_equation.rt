@@ -8,13 +8,14 @@ ghost use Rattle.terms.specs.Bounds.{edition-one};
 ghost use Rattle.rows.specs.Ended.{term-end};
 ghost use Rattle.rows.specs.Header.{header-of};
 ghost use Rattle.binding.specs.Keep.{kept-piece, kept-header};
+ghost use Rattle.rows.specs.Made.{of-sized};
 ghost use Rattle.rows.specs.Finished.{Finished};
 ghost use Rattle.plain_steps.specs.StepParts.{postponed, PostponeParts, PairParts, DecomposeParts, paired, decomposed};
 use binding::keep::keep;
 use rows::first::Subject;
 use rows::header::HEADER;
-use rows::parts::Made;
 use rows::parts::Rest;
+use rows::parts::Sized;
 use rows::walk::end_of_term;
 
 // The equation moves to the end of the pile. Its entry, the unknown's word and the term's words, is laid out at a place of its own first.
@@ -26,9 +27,9 @@ pub fn postpone(
     to: usize,
     size: usize,
     next: usize,
-) -> Made
+) -> Sized
     requires { ⌜ PostponeParts (now room) rest subject entry to size next ⌝ }
-    ensures { λ r. ⌜ Finished (postponed (now (room .entry)) subject entry) to 0 size (kept-piece (postponed (now (room .entry)) subject entry) rest entry (subject .m + 1)) (header-of (kept-header rest 0 (subject .m + 1) next)) r (now (room .exit)) ⌝ }
+    ensures { λ r. ⌜ Finished (postponed (now (room .entry)) subject entry) to 0 size (kept-piece (postponed (now (room .entry)) subject entry) rest entry (subject .m + 1)) (header-of (kept-header rest 0 (subject .m + 1) next)) (of-sized r) (now (room .exit)) ⌝ }
 {
     let by = subject.by;
     let m = subject.m;
@@ -105,9 +106,9 @@ pub fn decompose(
     to: usize,
     size: usize,
     next: usize,
-) -> Made
+) -> Sized
     requires { ⌜ DecomposeParts (now room) rest left n right m to size next ⌝ }
-    ensures { λ r. ⌜ Finished (decomposed edition-one (now (arities .entry)) (now (room .entry)) k left n right m to) to (length (paired edition-one (now (arities .entry)) k (seg (now (room .entry)) left n) (seg (now (room .entry)) right m))) size (kept-piece (decomposed edition-one (now (arities .entry)) (now (room .entry)) k left n right m to) rest left 0) (header-of (kept-header rest (length (paired edition-one (now (arities .entry)) k (seg (now (room .entry)) left n) (seg (now (room .entry)) right m))) 0 next)) r (now (room .exit)) ⌝ }
+    ensures { λ r. ⌜ Finished (decomposed edition-one (now (arities .entry)) (now (room .entry)) k left n right m to) to (length (paired edition-one (now (arities .entry)) k (seg (now (room .entry)) left n) (seg (now (room .entry)) right m))) size (kept-piece (decomposed edition-one (now (arities .entry)) (now (room .entry)) k left n right m to) rest left 0) (header-of (kept-header rest (length (paired edition-one (now (arities .entry)) k (seg (now (room .entry)) left n) (seg (now (room .entry)) right m))) 0 next)) (of-sized r) (now (room .exit)) ⌝ }
 {
     let written = pair_all(arities, room, k, left, n, right, m, to + HEADER);
     keep(room, rest, left, 0, to, written, size, next)

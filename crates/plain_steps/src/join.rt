@@ -10,6 +10,7 @@ ghost use Rattle.plain_steps.specs.JoinLaid.{JoinParts, Joined};
 use binding::bind::finish_pile;
 use rows::parts::Made;
 use rows::parts::Rest;
+use rows::parts::of_sized;
 use rows::walk::end_of_term;
 use rows::walk::is_in;
 use rows::walk::place_of_kernel;
@@ -65,5 +66,5 @@ pub fn join(
         return Made::Names;
     }
     room[last] = FIRST_UNKNOWN + next as u16;
-    finish_pile(arities, room, rest, x, value, m + 1, to, 0, size, next + 1)
+    of_sized(finish_pile(arities, room, rest, x, value, m + 1, to, 0, size, next + 1))
 }

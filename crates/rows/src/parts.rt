@@ -1,4 +1,6 @@
 // What a row's code passes on: what became of a node, the parts of a row's body, and those of its pile.
+ghost use mathlib.Core.Path.{_≡_};
+ghost use Rattle.rows.specs.Made.{of-sized};
 
 // What became of a due node.
 pub enum Made {
@@ -16,6 +18,22 @@ pub enum Reached {
     Names,
     Large,
     Live,
+}
+
+// What became of a live node that needs no unknown too many: its size tells.
+pub enum Sized {
+    Large,
+    Live,
+}
+
+// The same, as one of all cases.
+pub fn of_sized(node: Sized) -> Made
+    ensures { λ r. ⌜ r ≡ of-sized node ⌝ }
+{
+    match node {
+        Sized::Large => Made::Large,
+        Sized::Live => Made::Live,
+    }
 }
 
 // The rest of a row's body: where it begins, the words of its pending equations, of its pile and of its bindings, and the number of these.

@@ -2,6 +2,7 @@
 ghost use mathlib.Core.Path.{_≡_};
 ghost use mathlib.Core.Bool.{_||_, _&&_};
 ghost use Rattle.rows.specs.Flat.{holds};
+ghost use Rattle.rows.specs.Made.{of-sized};
 ghost use Rattle.splits.specs.KeptTails.{EntryParts};
 ghost use Rattle.splits.specs.Shared.{JoinedLaid, ShareParts, ShareMade, AgainParts, AgainMade, TwiceParts, TwiceMade, RenewParts, RenewMade};
 ghost use Rattle.search.specs.declared.steps.Tails.the-variants.{Different};
@@ -14,6 +15,8 @@ use rows::first::rest_of;
 use rows::header::HEADER;
 use rows::parts::Made;
 use rows::parts::Rest;
+use rows::parts::Sized;
+use rows::parts::of_sized;
 use rows::walk::is_in;
 use tails::bound_tail::bound;
 use tails::joined_members::tail_members;
@@ -71,9 +74,9 @@ fn bind_again(
     to: usize,
     size: usize,
     next: usize,
-) -> Made
+) -> Sized
     requires { ⌜ AgainParts (now arities) (now room) between x by m to size next ⌝ }
-    ensures { λ r. ⌜ AgainMade (now (arities .entry)) (now (room .entry)) between x by m to size next r (now (room .exit)) ⌝ }
+    ensures { λ r. ⌜ AgainMade (now (arities .entry)) (now (room .entry)) between x by m to size next (of-sized r) (now (room .exit)) ⌝ }
 {
     let last = between + 5;
     let header = read_header(&room[between..last]);
@@ -127,9 +130,9 @@ fn bind_twice(
     size: usize,
     next: usize,
     scratch: usize,
-) -> Made
+) -> Sized
     requires { ⌜ TwiceParts (now arities) (now room) from rest sides s u r m to size next scratch ⌝ }
-    ensures { λ a. ⌜ TwiceMade (now (arities .entry)) (now (room .entry)) from rest sides s u r m to size next scratch a (now (room .exit)) ⌝ }
+    ensures { λ a. ⌜ TwiceMade (now (arities .entry)) (now (room .entry)) from rest sides s u r m to size next scratch (of-sized a) (now (room .exit)) ⌝ }
 {
     let stride = size + HEADER;
     let first = scratch + stride + stride + stride;
@@ -150,10 +153,8 @@ fn bind_twice(
         named,
         scratch,
     ) {
-        Made::Live => bind_again(arities, room, between, r, value, m, to, size, named),
-        Made::Large => Made::Large,
-        Made::Dead => Made::Large,
-        Made::Names => Made::Large,
+        Sized::Live => bind_again(arities, room, between, r, value, m, to, size, named),
+        Sized::Large => Sized::Large,
     }
 }
 
@@ -171,9 +172,9 @@ fn renew(
     size: usize,
     next: usize,
     scratch: usize,
-) -> Made
+) -> Sized
     requires { ⌜ RenewParts (now arities) (now room) from rest sides joined s r to size next scratch ⌝ }
-    ensures { λ a. ⌜ RenewMade (now (arities .entry)) (now (room .entry)) from rest sides joined s r to size next scratch a (now (room .exit)) ⌝ }
+    ensures { λ a. ⌜ RenewMade (now (arities .entry)) (now (room .entry)) from rest sides joined s r to size next scratch (of-sized a) (now (room .exit)) ⌝ }
 {
     let u = joined.u + 1;
     match share(room, joined, s, next, size, scratch) {
@@ -194,7 +195,7 @@ fn renew(
                 scratch,
             )
         }
-        Copied::Full => Made::Large,
+        Copied::Full => Sized::Large,
     }
 }
 
@@ -227,7 +228,7 @@ pub fn different(
     if PATH_UNKNOWNS <= next {
         return Made::Names;
     }
-    renew(
+    of_sized(renew(
         arities,
         room,
         from,
@@ -240,5 +241,5 @@ pub fn different(
         size,
         next,
         scratch,
-    )
+    ))
 }

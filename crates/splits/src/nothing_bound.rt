@@ -1,6 +1,7 @@
 // A child of a split that binds nothing: neither tail is an unknown, or both are the same.
 ghost use Rattle.search.specs.declared.steps.Tails.the-variants.{Neither, Same};
 ghost use Rattle.rows.specs.Wrote.{Wrote};
+ghost use Rattle.rows.specs.Made.{of-sized};
 ghost use Rattle.tails.specs.Due.{ChildParts, ChildMade};
 ghost use Rattle.splits.specs.KeptTails.{tails-piece, TailsParts, EntryParts, EntryLaid};
 use binding::keep::keep;
@@ -8,8 +9,8 @@ use choices::equations::equations;
 use choices::sides::Sides;
 use replace::Copied;
 use rows::header::HEADER;
-use rows::parts::Made;
 use rows::parts::Rest;
+use rows::parts::Sized;
 use tails::joined_members::tail_members;
 
 // The equation of the two tails.
@@ -39,9 +40,9 @@ pub fn neither(
     size: usize,
     next: usize,
     scratch: usize,
-) -> Made
+) -> Sized
     requires { ⌜ ChildParts (now arities) (now room) from rest sides Neither to size next scratch ⌝ }
-    ensures { λ r. ⌜ ChildMade (now (arities .entry)) (now (room .entry)) from rest sides Neither to size next scratch r (now (room .exit)) ⌝ }
+    ensures { λ r. ⌜ ChildMade (now (arities .entry)) (now (room .entry)) from rest sides Neither to size next scratch (of-sized r) (now (room .exit)) ⌝ }
 {
     let stride = size + HEADER;
     let us = scratch + stride;
@@ -67,10 +68,10 @@ pub fn neither(
         Copied::Done(w) => {
             match tails_equation(room, from, sides, to + HEADER + w, size - w) {
                 Copied::Done(v) => keep(room, rest, by, 0, to, w + v, size, next),
-                Copied::Full => Made::Large,
+                Copied::Full => Sized::Large,
             }
         }
-        Copied::Full => Made::Large,
+        Copied::Full => Sized::Large,
     }
 }
 
@@ -108,9 +109,9 @@ pub fn same(
     size: usize,
     next: usize,
     scratch: usize,
-) -> Made
+) -> Sized
     requires { ⌜ ChildParts (now arities) (now room) from rest sides Same to size next scratch ⌝ }
-    ensures { λ r. ⌜ ChildMade (now (arities .entry)) (now (room .entry)) from rest sides Same to size next scratch r (now (room .exit)) ⌝ }
+    ensures { λ r. ⌜ ChildMade (now (arities .entry)) (now (room .entry)) from rest sides Same to size next scratch (of-sized r) (now (room .exit)) ⌝ }
 {
     let stride = size + HEADER;
     let us = scratch + stride;
@@ -136,6 +137,6 @@ pub fn same(
         size,
     ) {
         Copied::Done(w) => keep(room, rest, value, l, to, w, size, next),
-        Copied::Full => Made::Large,
+        Copied::Full => Sized::Large,
     }
 }

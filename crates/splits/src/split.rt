@@ -6,6 +6,7 @@ use crate::nothing_bound::same;
 use choices::sides::Sides;
 use rows::parts::Made;
 use rows::parts::Rest;
+use rows::parts::of_sized;
 use search::steps::Tails;
 use tails::one_tail::left;
 use tails::one_tail::right;
@@ -27,10 +28,20 @@ pub fn split(
     ensures { λ r. ⌜ ChildMade (now (arities .entry)) (now (room .entry)) from rest sides tails to size next scratch r (now (room .exit)) ⌝ }
 {
     match tails {
-        Tails::Neither => neither(arities, room, from, rest, sides, to, size, next, scratch),
+        Tails::Neither => of_sized(neither(
+            arities,
+            room,
+            from,
+            rest,
+            sides,
+            to,
+            size,
+            next,
+            scratch,
+        )),
         Tails::Left => left(arities, room, from, rest, sides, to, size, next, scratch),
         Tails::Right => right(arities, room, from, rest, sides, to, size, next, scratch),
         Tails::Different => different(arities, room, from, rest, sides, to, size, next, scratch),
-        Tails::Same => same(arities, room, from, rest, sides, to, size, next, scratch),
+        Tails::Same => of_sized(same(arities, room, from, rest, sides, to, size, next, scratch)),
     }
 }

@@ -73,12 +73,6 @@ module _ {b : Bounds} {l r : List ℕ} {to lent : ℕ} (B : Below l r to) where
 pub not-large : {a : Made} → a ≡ Large → a ≡ Live → ⊥
 not-large e f = let z : _≡_ {A = ℕ} 0 1 = cc in absurd (omega arith)
 
-pub not-dead : {a : Made} → a ≡ Dead → a ≡ Live → ⊥
-not-dead e f = let z : _≡_ {A = ℕ} 0 1 = cc in absurd (omega arith)
-
-pub not-names : {a : Made} → a ≡ Names → a ≡ Live → ⊥
-not-names e f = let z : _≡_ {A = ℕ} 0 1 = cc in absurd (omega arith)
-
 -- ---- what stays as it is
 
 module _ {l₀ : List ℕ} {from lent scratch to : ℕ} (T : Target l₀ from lent scratch to) where

@@ -1,4 +1,5 @@
 // A child of a split that binds an unknown: its new equations, then the rest of its parent's row.
+ghost use Rattle.rows.specs.Made.{of-sized};
 ghost use Rattle.tails.specs.Bound.{BoundMade, TailMade, BoundParts};
 use binding::bind::finish;
 use choices::equations::equations;
@@ -7,6 +8,8 @@ use replace::Copied;
 use rows::header::HEADER;
 use rows::parts::Made;
 use rows::parts::Rest;
+use rows::parts::Sized;
+use rows::parts::of_sized;
 use rows::walk::is_in;
 
 // The new equations with x replaced by the m words at `by`, then the finish of the binding of x to them.
@@ -23,9 +26,9 @@ pub fn bound(
     size: usize,
     next: usize,
     scratch: usize,
-) -> Made
+) -> Sized
     requires { ⌜ BoundParts (now arities) (now room) from rest sides x by m to size next scratch ⌝ }
-    ensures { λ r. ⌜ BoundMade (now (arities .entry)) (now (room .entry)) from rest sides x by m to size next scratch r (now (room .exit)) ⌝ }
+    ensures { λ r. ⌜ BoundMade (now (arities .entry)) (now (room .entry)) from rest sides x by m to size next scratch (of-sized r) (now (room .exit)) ⌝ }
 {
     let stride = size + HEADER;
     let us = scratch + stride;
@@ -47,7 +50,7 @@ pub fn bound(
         size,
     ) {
         Copied::Done(w) => finish(arities, room, rest, x, by, m, to, w, size, next),
-        Copied::Full => Made::Large,
+        Copied::Full => Sized::Large,
     }
 }
 
@@ -73,7 +76,7 @@ pub fn bind_tail(
     if is_in(&room[by..end], x) {
         return Made::Dead;
     }
-    bound(
+    of_sized(bound(
         arities,
         room,
         from,
@@ -86,5 +89,5 @@ pub fn bind_tail(
         size,
         next,
         scratch,
-    )
+    ))
 }

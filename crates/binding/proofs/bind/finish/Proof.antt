@@ -1,6 +1,7 @@
 use Rattle.binding.proofs.Finishing.{row-sum, row-next, all-finished, all-full}
 use Rattle.rows.specs.Finished.{body-part}
 use native.Mathlib.Omega.{arith}
+use Rattle.rows.specs.Made.{of-sized}
 use borrow.Author.Needs.{needs}
 use Rattle.binding.proofs.bind.finish.Statement.{statement}
 use Rattle.binding.proofs.bind.finish.Tie as tie
@@ -41,6 +42,7 @@ same-length-2 : tie.Need-same-length-2
 same-length-2 c = search needs
 
 returns-2 : tie.Need-returns-2
+unfolding of-sized
 returns-2 c = all-full (c .before .before .before .before .before .before .before .before .args .arities .now) (c .before .before .before .before .before .before .before .before .pre) (rw (c .enum-told .given .1) at (c .before .before .before .before .bind-pending .ensures))
 
 pub finish-spec : {M : Type 1} → statement M

@@ -1,6 +1,7 @@
 use Rattle.binding.proofs.Finishing.{row-sum, seal-parts, bindings-sealed, bindings-full}
 use Rattle.rows.specs.Finished.{body-part}
 use native.Mathlib.Omega.{arith}
+use Rattle.rows.specs.Made.{of-sized}
 use borrow.Author.Needs.{needs}
 use Rattle.binding.proofs.bind.finish_bindings.Statement.{statement}
 use Rattle.binding.proofs.bind.finish_bindings.Tie as tie
@@ -41,12 +42,14 @@ same-length : tie.Need-same-length
 same-length c = search needs
 
 returns : tie.Need-returns
+unfolding of-sized
 returns c = bindings-sealed (c .before .before .before .before .before .before .before .before .before .before .before .before .before .args .pending) (c .before .before .before .before .before .before .before .before .before .before .before .before .before .args .pile) (c .before .before .before .before .before .before .before .before .before .before .before .before .before .pre) (rw (c .before .before .before .before .before .before .k .given .1) at (c .before .before .before .before .before .before .before .before .before .before .bind-last .ensures)) (c .before .before .seal .ensures)
 
 same-length-2 : tie.Need-same-length-2
 same-length-2 c = search needs
 
 returns-2 : tie.Need-returns-2
+unfolding of-sized
 returns-2 c = bindings-full (c .before .before .before .before .before .before .before .args .pending) (c .before .before .before .before .before .before .before .args .pile) (c .before .before .before .before .before .before .before .pre) (rw (c .enum-told .given .1) at (c .before .before .before .before .bind-last .ensures))
 
 pub finish-bindings-spec : {M : Type 1} → statement M

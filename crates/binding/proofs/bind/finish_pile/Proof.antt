@@ -1,4 +1,5 @@
 use Rattle.binding.proofs.Finishing.{others-parts, pile-next, pile-finished, pile-full}
+use Rattle.rows.specs.Made.{of-sized}
 use borrow.Author.Needs.{needs}
 use Rattle.binding.proofs.bind.finish_pile.Statement.{statement}
 use Rattle.binding.proofs.bind.finish_pile.Tie as tie
@@ -37,6 +38,7 @@ same-length-2 : tie.Need-same-length-2
 same-length-2 c = search needs
 
 returns-2 : tie.Need-returns-2
+unfolding of-sized
 returns-2 c = pile-full (c .before .before .before .before .before .before .before .before .before .args .arities .now) (c .before .before .before .before .before .before .before .before .before .pre) (rw (c .enum-told .given .1) at (c .before .before .before .before .replace-others .ensures))
 
 pub finish-pile-spec : {M : Type 1} → statement M

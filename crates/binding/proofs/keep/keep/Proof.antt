@@ -2,6 +2,7 @@ use Rattle.binding.proofs.RestCopied.{keep-seal-parts, keep-sealed, kee
 use Rattle.binding.proofs.Finishing.{row-sum}
 use Rattle.rows.specs.Finished.{body-part}
 use native.Mathlib.Omega.{arith}
+use Rattle.rows.specs.Made.{of-sized}
 use borrow.Author.Needs.{needs}
 use Rattle.binding.proofs.keep.keep.Statement.{statement}
 use Rattle.binding.proofs.keep.keep.Tie as tie
@@ -42,12 +43,14 @@ same-length : tie.Need-same-length
 same-length c = search needs
 
 returns : tie.Need-returns
+unfolding of-sized
 returns c = keep-sealed (c .before .before .before .before .before .before .before .before .before .before .before .before .before .before .pre) (rw (c .before .before .before .before .before .before .before .k .given .1) at (c .before .before .before .before .before .before .before .before .before .before .before .keep-rest .ensures)) (c .before .before .seal .ensures)
 
 same-length-2 : tie.Need-same-length-2
 same-length-2 c = search needs
 
 returns-2 : tie.Need-returns-2
+unfolding of-sized
 returns-2 c = keep-large (c .before .before .before .before .before .before .before .pre) (rw (c .enum-told .given .1) at (c .before .before .before .before .keep-rest .ensures))
 
 pub keep-spec : {M : Type 1} → statement M

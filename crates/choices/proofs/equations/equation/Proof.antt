@@ -6,66 +6,51 @@ use borrow.Author.Needs.{needs}
 use Rattle.choices.proofs.equations.equation.Statement.{statement}
 use Rattle.choices.proofs.equations.equation.Tie as tie
 
--- src/equations.rt:37:11
 side-requires : tie.Need-side-requires
 side-requires c κs = search needs
 
--- src/equations.rt:38:22
 enum-known-k : tie.Need-enum-known-k
 enum-known-k c = search needs
 
--- src/equations.rt:39:49
 add-side : tie.Need-add-side
 add-side c = let k = first-within (c .before .before .before .before .before .before .before .before .before .pre) _ (rw (c .before .before .k .given .1) at (c .before .before .before .before .before .before .side .ensures)) in omega (arith, c .before .before .before .before .before .before .before .before .before .pre .0 .to-within)
 
--- src/equations.rt:39:57
 sub-side : tie.Need-sub-side
 sub-side c = let k = first-within (c .before .before .before .before .before .before .before .before .before .pre) _ (rw (c .before .before .k .given .1) at (c .before .before .before .before .before .before .side .ensures)) in omega (arith, c .before .before .before .before .before .before .before .before .before .pre .0 .to-within)
 
--- src/equations.rt:39:19
 side-requires-2 : tie.Need-side-requires-2
 side-requires-2 c κs = second-parts (c .before .before .before .before .before .before .before .before .before .pre) _ (rw (c .before .before .k .given .1) at (c .before .before .before .before .before .before .side .ensures))
 
--- src/equations.rt:40:30
 enum-known-j : tie.Need-enum-known-j
 enum-known-j c = search needs
 
--- src/equations.rt:40:49
 add-t22 : tie.Need-add-t22
 unfolding further
 add-t22 c = let w = equation-written (c .before .before .before .before .before .before .before .before .before .before .before .before .before .before .before .pre) _ (rw (c .before .before .before .before .before .before .before .before .k .given .1) at (c .before .before .before .before .before .before .before .before .before .before .before .before .side .ensures)) (rw (c .before .j .given .1) at (c .before .before .before .before .before .side2 .ensures)) in omega (arith, c .before .before .before .before .before .before .before .before .before .before .before .before .before .before .before .pre .0 .to-within, done-fits w, done-length w)
 
--- src/equations.rt:41:33
 enum-told : tie.Need-enum-told
 enum-told c = search needs
 
--- src/equations.rt:44:25
 enum-told-2 : tie.Need-enum-told-2
 enum-told-2 c = search needs
 
--- src/equations.rt:23:1
 same-length : tie.Need-same-length
 same-length c = search needs
 
--- src/equations.rt:23:1
 returns : tie.Need-returns
 unfolding further
 returns c = equation-written (c .before .before .before .before .before .before .before .before .before .before .before .before .before .before .before .pre) _ (rw (c .before .before .before .before .before .before .before .before .k .given .1) at (c .before .before .before .before .before .before .before .before .before .before .before .before .side .ensures)) (rw (c .before .j .given .1) at (c .before .before .before .before .before .side2 .ensures))
 
--- src/equations.rt:23:1
 same-length-2 : tie.Need-same-length-2
 same-length-2 c = search needs
 
--- src/equations.rt:23:1
 returns-2 : tie.Need-returns-2
 unfolding further
 returns-2 c = equation-written (c .before .before .before .before .before .before .before .before .before .before .before .before .before .before .pre) _ (rw (c .before .before .before .before .before .before .before .k .given .1) at (c .before .before .before .before .before .before .before .before .before .before .before .side .ensures)) (rw (c .enum-told .given .1) at (c .before .before .before .before .side2 .ensures))
 
--- src/equations.rt:23:1
 same-length-3 : tie.Need-same-length-3
 same-length-3 c = search needs
 
--- src/equations.rt:23:1
 returns-3 : tie.Need-returns-3
 returns-3 c = equation-full (c .before .before .before .before .before .before .before .pre) _ (rw (c .enum-told2 .given .1) at (c .before .before .before .before .side .ensures))
 

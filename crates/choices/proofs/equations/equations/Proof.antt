@@ -6,70 +6,54 @@ use borrow.Author.Needs.{needs}
 use Rattle.choices.proofs.equations.equations.Statement.{statement}
 use Rattle.choices.proofs.equations.equations.Tie as tie
 
--- src/equations.rt:140:11
 equations-of-requires : tie.Need-equations-of-requires
 equations-of-requires c κs = search needs
 
--- src/equations.rt:141:22
 enum-known-w : tie.Need-enum-known-w
 enum-known-w c = search needs
 
--- src/equations.rt:150:17
 add-equations-of : tie.Need-add-equations-of
 add-equations-of c = search needs
 
--- src/equations.rt:154:17
 add-equations-of-2 : tie.Need-add-equations-of-2
 add-equations-of-2 c = let k = first-within (c .before .before .before .before .before .before .before .before .before .pre) _ (rw (c .before .before .w .given .1) at (c .before .before .before .before .before .before .equations-of .ensures)) in omega (arith, c .before .before .before .before .before .before .before .before .before .pre .0 .to-within)
 
--- src/equations.rt:155:17
 sub-equations-of : tie.Need-sub-equations-of
 sub-equations-of c = let k = first-within (c .before .before .before .before .before .before .before .before .before .pre) _ (rw (c .before .before .w .given .1) at (c .before .before .before .before .before .before .equations-of .ensures)) in omega (arith, c .before .before .before .before .before .before .before .before .before .pre .0 .to-within)
 
--- src/equations.rt:142:19
 equations-of-requires-2 : tie.Need-equations-of-requires-2
 equations-of-requires-2 c κs = second-parts (c .before .before .before .before .before .before .before .before .before .pre) _ (rw (c .before .before .w .given .1) at (c .before .before .before .before .before .before .equations-of .ensures))
 
--- src/equations.rt:157:30
 enum-known-v : tie.Need-enum-known-v
 enum-known-v c = search needs
 
--- src/equations.rt:157:49
 add-t26 : tie.Need-add-t26
 unfolding further
 add-t26 c = let w = equations-written (c .before .before .before .before .before .before .before .before .before .before .before .before .before .before .before .pre) _ (rw (c .before .before .before .before .before .before .before .before .w .given .1) at (c .before .before .before .before .before .before .before .before .before .before .before .before .equations-of .ensures)) (rw (c .before .v .given .1) at (c .before .before .before .before .before .equations-of2 .ensures)) in omega (arith, c .before .before .before .before .before .before .before .before .before .before .before .before .before .before .before .pre .0 .to-within, done-fits w, done-length w)
 
--- src/equations.rt:158:33
 enum-told : tie.Need-enum-told
 enum-told c = search needs
 
--- src/equations.rt:161:25
 enum-told-2 : tie.Need-enum-told-2
 enum-told-2 c = search needs
 
--- src/equations.rt:123:1
 same-length : tie.Need-same-length
 same-length c = search needs
 
--- src/equations.rt:123:1
 returns : tie.Need-returns
 unfolding further
 returns c = equations-written (c .before .before .before .before .before .before .before .before .before .before .before .before .before .before .before .pre) _ (rw (c .before .before .before .before .before .before .before .before .w .given .1) at (c .before .before .before .before .before .before .before .before .before .before .before .before .equations-of .ensures)) (rw (c .before .v .given .1) at (c .before .before .before .before .before .equations-of2 .ensures))
 
--- src/equations.rt:123:1
 same-length-2 : tie.Need-same-length-2
 same-length-2 c = search needs
 
--- src/equations.rt:123:1
 returns-2 : tie.Need-returns-2
 unfolding further
 returns-2 c = equations-written (c .before .before .before .before .before .before .before .before .before .before .before .before .before .before .pre) _ (rw (c .before .before .before .before .before .before .before .w .given .1) at (c .before .before .before .before .before .before .before .before .before .before .before .equations-of .ensures)) (rw (c .enum-told .given .1) at (c .before .before .before .before .equations-of2 .ensures))
 
--- src/equations.rt:123:1
 same-length-3 : tie.Need-same-length-3
 same-length-3 c = search needs
 
--- src/equations.rt:123:1
 returns-3 : tie.Need-returns-3
 returns-3 c = first-full (c .before .before .before .before .before .before .before .pre) _ (rw (c .enum-told2 .given .1) at (c .before .before .before .before .equations-of .ensures))
 

@@ -13,95 +13,72 @@ Inv-loop room₀ body turned owns n others count picks x by m to capacity i₀ w
 abbrev μ-loop : tie.MeasureT-loop
 μ-loop room₀ body turned owns n others count picks x by m to capacity i₀ written₀ room i written = n - i
 
--- src/equations.rt:92:5
 loop-holds : tie.Need-loop-holds Inv-loop μ-loop
 loop-holds c = none-met _ _ (c .before .pre)
 
--- src/equations.rt:93:30
 add-wide : tie.Need-add-wide Inv-loop μ-loop
 add-wide c = let N = numbers (c .before .loop .inv) in omega arith
 
--- src/equations.rt:93:25
 mul-wide : tie.Need-mul-wide Inv-loop μ-loop
 mul-wide c = let N = numbers (c .before .loop .inv) in omega arith
 
--- src/equations.rt:93:25
 slice-read-wide : tie.Need-slice-read-wide Inv-loop μ-loop
 slice-read-wide c = let N = numbers (c .before .before .loop .inv) in omega arith
 
--- src/equations.rt:93:13
 wide-requires : tie.Need-wide-requires Inv-loop μ-loop
 wide-requires c κs = search needs
 
--- src/equations.rt:99:17
 add-pair : tie.Need-add-pair Inv-loop μ-loop
 add-pair c = let N = numbers (c .before .before .before .before .before .loop .inv) in omega arith
 
--- src/equations.rt:100:17
 add-pair-2 : tie.Need-add-pair-2 Inv-loop μ-loop
 add-pair-2 c = let N = numbers (c .before .before .before .before .before .loop .inv) in omega arith
 
--- src/equations.rt:104:17
 add-pair-3 : tie.Need-add-pair-3 Inv-loop μ-loop
 add-pair-3 c = let N = numbers (c .before .before .before .before .before .loop .inv) in omega arith
 
--- src/equations.rt:105:17
 sub-pair : tie.Need-sub-pair Inv-loop μ-loop
 sub-pair c = let N = numbers (c .before .before .before .before .before .loop .inv) in omega arith
 
--- src/equations.rt:95:19
 pair-requires : tie.Need-pair-requires Inv-loop μ-loop
 pair-requires c κs = pair-parts (c .before .before .before .before .before .loop .inv) (c .before .before .before .before .loop-test .taken) _ (c .before .before .wide .ensures) (c .before .if1 .taken)
 
--- src/equations.rt:107:30
 enum-known-k : tie.Need-enum-known-k Inv-loop μ-loop
 enum-known-k c = search needs
 
--- src/equations.rt:108:21
 add-written : tie.Need-add-written Inv-loop μ-loop
 add-written c = let N = numbers (pair-met (c .before .before .before .before .before .before .before .before .before .before .before .loop .inv) (c .before .before .before .before .before .before .before .before .before .before .loop-test .taken) _ (c .before .before .before .before .before .before .before .before .wide .ensures) (c .before .before .before .before .before .before .before .if1 .taken) (c .before .before .before .before .before .pair .ensures) _ (c .before .k .given .1)) in omega arith
 
--- src/equations.rt:109:21
 add-i : tie.Need-add-i Inv-loop μ-loop
 add-i c = let N = numbers (c .before .before .before .before .before .before .before .before .before .before .before .loop .inv) in omega arith
 
--- src/equations.rt:92:5
 loop-less : tie.Need-loop-less Inv-loop μ-loop
 loop-less c = let N = numbers (c .before .before .before .before .before .before .before .before .before .before .before .loop .inv) in omega arith
 
--- src/equations.rt:92:5
 loop-again : tie.Need-loop-again Inv-loop μ-loop
 loop-again c = pair-met (c .before .before .before .before .before .before .before .before .before .before .before .loop .inv) (c .before .before .before .before .before .before .before .before .before .before .loop-test .taken) _ (c .before .before .before .before .before .before .before .before .wide .ensures) (c .before .before .before .before .before .before .before .if1 .taken) (c .before .before .before .before .before .pair .ensures) _ (c .before .k .given .1)
 
--- src/equations.rt:112:21
 enum-told : tie.Need-enum-told Inv-loop μ-loop
 enum-told c = search needs
 
--- src/equations.rt:112:21
 same-length : tie.Need-same-length Inv-loop μ-loop
 same-length c = wrote-length (c .before .before .before .before .pair .ensures) ∙ numbers (c .before .before .before .before .before .before .before .before .before .before .loop .inv) .long
 
--- src/equations.rt:112:21
 returns : tie.Need-returns Inv-loop μ-loop
 returns c = pair-full (c .before .before .before .before .before .before .before .before .before .before .loop .inv) (c .before .before .before .before .before .before .before .before .before .loop-test .taken) _ (c .before .before .before .before .before .before .before .wide .ensures) (c .before .before .before .before .before .before .if1 .taken) (c .before .before .before .before .pair .ensures) (c .enum-told .given .1)
 
--- src/equations.rt:116:13
 add-i-2 : tie.Need-add-i-2 Inv-loop μ-loop
 add-i-2 c = let N = numbers (c .before .before .before .before .loop .inv) in omega arith
 
--- src/equations.rt:92:5
 loop-less-2 : tie.Need-loop-less-2 Inv-loop μ-loop
 loop-less-2 c = let N = numbers (c .before .before .before .before .loop .inv) in omega arith
 
--- src/equations.rt:92:5
 loop-again-2 : tie.Need-loop-again-2 Inv-loop μ-loop
 loop-again-2 c = pick-passed (c .before .before .before .before .loop .inv) (c .before .before .before .loop-test .taken) _ (c .before .wide .ensures) (c .if1 .left)
 
--- src/equations.rt:72:1
 same-length-2 : tie.Need-same-length-2 Inv-loop μ-loop
 same-length-2 c = let N = numbers (c .before .loop .inv) in omega arith
 
--- src/equations.rt:72:1
 returns-2 : tie.Need-returns-2 Inv-loop μ-loop
 returns-2 c = all-met (c .before .loop .inv) (c .loop-test .left)
 

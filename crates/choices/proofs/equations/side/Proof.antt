@@ -3,55 +3,42 @@ use borrow.Author.Needs.{needs}
 use Rattle.choices.proofs.equations.side.Statement.{statement}
 use Rattle.choices.proofs.equations.side.Tie as tie
 
--- src/equations.rt:17:18
 mul-wide : tie.Need-mul-wide
 mul-wide c = search needs
 
--- src/equations.rt:17:18
 slice-read-wide : tie.Need-slice-read-wide
 slice-read-wide c = search needs
 
--- src/equations.rt:17:13
 wide-requires : tie.Need-wide-requires
 wide-requires c κs = search needs
 
--- src/equations.rt:17:13
 add-p : tie.Need-add-p
 add-p c = search needs
 
--- src/equations.rt:18:23
 add-wide : tie.Need-add-wide
 add-wide c = search needs
 
--- src/equations.rt:18:18
 mul-wide-2 : tie.Need-mul-wide-2
 mul-wide-2 c = search needs
 
--- src/equations.rt:18:18
 slice-read-wide-2 : tie.Need-slice-read-wide-2
 slice-read-wide-2 c = search needs
 
--- src/equations.rt:18:9
 wide-requires-2 : tie.Need-wide-requires-2
 wide-requires-2 c κs = search needs
 
--- src/equations.rt:19:25
 add-replace : tie.Need-add-replace
 add-replace c = search needs
 
--- src/equations.rt:19:35
 sub-replace : tie.Need-sub-replace
 sub-replace c = search needs
 
--- src/equations.rt:19:5
 replace-requires : tie.Need-replace-requires
 replace-requires c κs = side-parts (c .before .before .before .before .before .before .pre) (c .before .before .before .wide .ensures) (c .before .wide2 .ensures)
 
--- src/equations.rt:13:1
 same-length : tie.Need-same-length
 same-length c = search needs
 
--- src/equations.rt:13:1
 returns : tie.Need-returns
 returns c = side-written (c .before .before .before .before .before .before .before .before .before .pre) (c .before .before .before .before .before .before .wide .ensures) (c .before .before .before .before .wide2 .ensures) _ (c .before .before .replace .ensures .0) (c .before .before .replace .ensures .1)
 

@@ -11,107 +11,81 @@ Inv-loop arities room₀ body first end to place₀ due₀ n₀ room place due n
 abbrev μ-loop : tie.MeasureT-loop
 μ-loop arities room₀ body first end to place₀ due₀ n₀ room place due n = end - place
 
--- src/members.rt:20:5
 loop-holds : tie.Need-loop-holds Inv-loop μ-loop
 loop-holds c = none-noted _ (c .before .before .pre)
 
--- src/members.rt:21:25
 add-word : tie.Need-add-word Inv-loop μ-loop
 add-word c = let N = numbers (c .before .loop .inv) in omega arith
 
--- src/members.rt:21:20
 mul-word : tie.Need-mul-word Inv-loop μ-loop
 mul-word c = let N = numbers (c .before .loop .inv) in omega arith
 
--- src/members.rt:21:20
 slice-read-word : tie.Need-slice-read-word Inv-loop μ-loop
 slice-read-word c = let N = numbers (c .before .before .loop .inv) in omega arith
 
--- src/members.rt:23:19
 sub-due : tie.Need-sub-due Inv-loop μ-loop
 sub-due c = search needs
 
--- src/members.rt:23:29
 terms-after-requires : tie.Need-terms-after-requires Inv-loop μ-loop
 terms-after-requires c κs = search needs
 
--- src/members.rt:23:19
 add-due : tie.Need-add-due Inv-loop μ-loop
 add-due c = let N = numbers (c .before .before .before .before .loop .inv) in omega (arith, c .terms-after .ensures .1)
 
--- src/members.rt:24:13
 add-place : tie.Need-add-place Inv-loop μ-loop
 add-place c = let N = numbers (c .before .before .before .before .loop .inv) in omega arith
 
--- src/members.rt:20:5
 loop-less : tie.Need-loop-less Inv-loop μ-loop
 loop-less c = let N = numbers (c .before .before .before .before .loop .inv) in omega arith
 
--- src/members.rt:20:5
 loop-again : tie.Need-loop-again Inv-loop μ-loop
 loop-again c = word-passed (c .before .before .before .before .loop .inv) (c .before .before .before .loop-test .taken) (c .before .if1 .taken) _ (c .terms-after .ensures .0) (c .terms-after .ensures .1)
 
--- src/members.rt:26:28
 cast-room : tie.Need-cast-room Inv-loop μ-loop
 cast-room c = let N = numbers (c .before .before .before .loop .inv) in omega arith
 
--- src/members.rt:26:18
 add-room : tie.Need-add-room Inv-loop μ-loop
 add-room c = let N = numbers (c .before .before .before .loop .inv) in omega arith
 
--- src/members.rt:26:13
 mul-room : tie.Need-mul-room Inv-loop μ-loop
 mul-room c = let N = numbers (c .before .before .before .loop .inv) in omega arith
 
--- src/members.rt:26:13
 slice-write-room : tie.Need-slice-write-room Inv-loop μ-loop
 slice-write-room c = let N = numbers (c .before .before .before .loop .inv) in omega arith
 
--- src/members.rt:28:17
 same-length : tie.Need-same-length Inv-loop μ-loop
 same-length c = let N = numbers (c .before .before .before .before .loop .inv) in search needs
 
--- src/members.rt:28:17
 returns : tie.Need-returns Inv-loop μ-loop
 returns c = kernel-noted (c .before .before .before .before .loop .inv) (c .before .before .before .loop-test .taken) (omega arith) (c .if2 .taken)
 
--- src/members.rt:30:13
 add-n : tie.Need-add-n Inv-loop μ-loop
 add-n c = let N = numbers (c .before .before .before .before .loop .inv) in omega arith
 
--- src/members.rt:32:13
 add-place-2 : tie.Need-add-place-2 Inv-loop μ-loop
 add-place-2 c = let N = numbers (c .before .before .before .before .loop .inv) in omega arith
 
--- src/members.rt:20:5
 loop-less-2 : tie.Need-loop-less-2 Inv-loop μ-loop
 loop-less-2 c = let N = numbers (c .before .before .before .before .loop .inv) in omega arith
 
--- src/members.rt:20:5
 loop-again-2 : tie.Need-loop-again-2 Inv-loop μ-loop
 loop-again-2 c = mark-noted (c .before .before .before .before .loop .inv) (c .before .before .before .loop-test .taken) (omega arith) (c .if2 .left)
 
--- src/members.rt:35:20
 cast-room-2 : tie.Need-cast-room-2 Inv-loop μ-loop
 cast-room-2 c = let N = numbers (c .before .loop .inv) in omega arith
 
--- src/members.rt:35:10
 add-room-2 : tie.Need-add-room-2 Inv-loop μ-loop
 add-room-2 c = let N = numbers (c .before .loop .inv) in omega arith
 
--- src/members.rt:35:5
 mul-room-2 : tie.Need-mul-room-2 Inv-loop μ-loop
 mul-room-2 c = let N = numbers (c .before .loop .inv) in omega arith
 
--- src/members.rt:35:5
 slice-write-room-2 : tie.Need-slice-write-room-2 Inv-loop μ-loop
 slice-write-room-2 c = let N = numbers (c .before .loop .inv) in omega arith
 
--- src/members.rt:12:1
 same-length-2 : tie.Need-same-length-2 Inv-loop μ-loop
 same-length-2 c = let N = numbers (c .before .loop .inv) in search needs
 
--- src/members.rt:12:1
 returns-2 : tie.Need-returns-2 Inv-loop μ-loop
 returns-2 c = note-last (c .before .loop .inv) (c .loop-test .left)
 

@@ -3,31 +3,24 @@ use borrow.Author.Needs.{needs}
 use Rattle.choices.proofs.picks.advance.Statement.{statement}
 use Rattle.choices.proofs.picks.advance.Tie as tie
 
--- src/picks.rt:56:36
 add-advance-of : tie.Need-add-advance-of
 add-advance-of c = search needs
 
--- src/picks.rt:56:8
 advance-of-requires : tie.Need-advance-of-requires
 advance-of-requires c κs = search needs
 
--- src/picks.rt:57:9
 same-length : tie.Need-same-length
 same-length c = search needs
 
--- src/picks.rt:57:9
 returns : tie.Need-returns
 returns c = advanced-second (c .before .before .before .before .before .before .pre .0) (c .before .before .before .before .before .before .pre .1) (rw (c .if1 .taken) at (c .before .before .before .advance-of .ensures))
 
--- src/picks.rt:59:5
 advance-of-requires-2 : tie.Need-advance-of-requires-2
 advance-of-requires-2 c κs = first-parts (c .before .before .before .before .before .before .before .pre .0) (c .before .before .before .before .before .before .before .pre .1) (rw (c .before .if1 .left) at (c .before .before .before .before .advance-of .ensures))
 
--- src/picks.rt:52:1
 same-length-2 : tie.Need-same-length-2
 same-length-2 c = search needs
 
--- src/picks.rt:52:1
 returns-2 : tie.Need-returns-2
 returns-2 c = advanced-first (c .before .before .before .before .before .before .before .before .before .before .pre .0) (c .before .before .before .before .before .before .before .before .before .before .pre .1) (rw (c .before .before .before .before .if1 .left) at (c .before .before .before .before .before .before .before .advance-of .ensures)) (c .before .before .advance-of2 .ensures)
 

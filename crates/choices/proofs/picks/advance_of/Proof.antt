@@ -11,83 +11,63 @@ Inv-loop room₀ n radix at i₀ room i = Advancing room₀ n radix at room i
 abbrev μ-loop : tie.MeasureT-loop
 μ-loop room₀ n radix at i₀ room i = i
 
--- src/picks.rt:39:5
 loop-holds : tie.Need-loop-holds Inv-loop μ-loop
 loop-holds c = none-advanced (c .before .pre)
 
--- src/picks.rt:40:9
 sub-i : tie.Need-sub-i Inv-loop μ-loop
 sub-i c = let N = counts (c .before .loop .inv) in omega arith
 
--- src/picks.rt:41:30
 add-wide : tie.Need-add-wide Inv-loop μ-loop
 add-wide c = let N = counts (c .before .loop .inv) in omega arith
 
--- src/picks.rt:41:25
 mul-wide : tie.Need-mul-wide Inv-loop μ-loop
 mul-wide c = let N = counts (c .before .loop .inv) in omega arith
 
--- src/picks.rt:41:25
 slice-read-wide : tie.Need-slice-read-wide Inv-loop μ-loop
 slice-read-wide c = let N = counts (c .before .before .loop .inv) in omega arith
 
--- src/picks.rt:41:20
 wide-requires : tie.Need-wide-requires Inv-loop μ-loop
 wide-requires c κs = let N = counts (c .before .before .loop .inv) in omega arith
 
--- src/picks.rt:41:20
 add-pick : tie.Need-add-pick Inv-loop μ-loop
 add-pick c = let N = counts (c .before .before .before .loop .inv) in let b = digit-below (c .before .before .before .loop .inv) (c .before .before .loop-test .taken) _ (c .wide .ensures) in omega arith
 
--- src/picks.rt:43:28
 cast-room : tie.Need-cast-room Inv-loop μ-loop
 cast-room c = let N = counts (c .before .before .before .before .loop .inv) in let b = digit-below (c .before .before .before .before .loop .inv) (c .before .before .before .loop-test .taken) _ (c .before .wide .ensures) in omega arith
 
--- src/picks.rt:43:18
 add-room : tie.Need-add-room Inv-loop μ-loop
 add-room c = let N = counts (c .before .before .before .before .loop .inv) in omega arith
 
--- src/picks.rt:43:13
 mul-room : tie.Need-mul-room Inv-loop μ-loop
 mul-room c = let N = counts (c .before .before .before .before .loop .inv) in omega arith
 
--- src/picks.rt:43:13
 slice-write-room : tie.Need-slice-write-room Inv-loop μ-loop
 slice-write-room c = let N = counts (c .before .before .before .before .loop .inv) in omega arith
 
--- src/picks.rt:44:13
 same-length : tie.Need-same-length Inv-loop μ-loop
 same-length c = let N = counts (c .before .before .before .before .loop .inv) in search needs
 
--- src/picks.rt:44:13
 returns : tie.Need-returns Inv-loop μ-loop
 returns c = digit-advanced (c .before .before .before .before .loop .inv) (c .before .before .before .loop-test .taken) _ (c .before .wide .ensures) (c .if1 .taken)
 
--- src/picks.rt:46:14
 add-room-2 : tie.Need-add-room-2 Inv-loop μ-loop
 add-room-2 c = let N = counts (c .before .before .before .before .loop .inv) in omega arith
 
--- src/picks.rt:46:9
 mul-room-2 : tie.Need-mul-room-2 Inv-loop μ-loop
 mul-room-2 c = let N = counts (c .before .before .before .before .loop .inv) in omega arith
 
--- src/picks.rt:46:9
 slice-write-room-2 : tie.Need-slice-write-room-2 Inv-loop μ-loop
 slice-write-room-2 c = let N = counts (c .before .before .before .before .loop .inv) in omega arith
 
--- src/picks.rt:39:5
 loop-less : tie.Need-loop-less Inv-loop μ-loop
 loop-less c = let N = counts (c .before .before .before .before .loop .inv) in omega arith
 
--- src/picks.rt:39:5
 loop-again : tie.Need-loop-again Inv-loop μ-loop
 loop-again c = digit-again (c .before .before .before .before .loop .inv) (c .before .before .before .loop-test .taken) _ (c .before .wide .ensures) (c .if1 .left)
 
--- src/picks.rt:34:1
 same-length-2 : tie.Need-same-length-2 Inv-loop μ-loop
 same-length-2 c = let N = counts (c .before .loop .inv) in search needs
 
--- src/picks.rt:34:1
 returns-2 : tie.Need-returns-2 Inv-loop μ-loop
 returns-2 c = all-advanced (c .before .loop .inv) (c .loop-test .left)
 

@@ -3,23 +3,18 @@ use borrow.Author.Needs.{needs}
 use Rattle.choices.proofs.picks.digits.Statement.{statement}
 use Rattle.choices.proofs.picks.digits.Tie as tie
 
--- src/picks.rt:29:51
 add-digits-of : tie.Need-add-digits-of
 add-digits-of c = search needs
 
--- src/picks.rt:29:9
 digits-of-requires : tie.Need-digits-of-requires
 digits-of-requires c κs = search needs
 
--- src/picks.rt:30:5
 digits-of-requires-2 : tie.Need-digits-of-requires-2
 digits-of-requires-2 c κs = search needs
 
--- src/picks.rt:25:1
 same-length : tie.Need-same-length
 same-length c = search needs
 
--- src/picks.rt:25:1
 returns : tie.Need-returns
 returns c = both-decoded (length-copies _ _) (c .before .before .before .before .before .before .digits-of .ensures) (c .before .before .digits-of2 .ensures)
 

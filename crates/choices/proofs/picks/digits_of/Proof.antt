@@ -11,51 +11,39 @@ Inv-loop room₀ number n radix to left₀ i₀ room left i = Decoding room₀ n
 abbrev μ-loop : tie.MeasureT-loop
 μ-loop room₀ number n radix to left₀ i₀ room left i = i
 
--- src/picks.rt:16:5
 loop-holds : tie.Need-loop-holds Inv-loop μ-loop
 loop-holds c = none-decoded _ (c .pre)
 
--- src/picks.rt:17:9
 sub-i : tie.Need-sub-i Inv-loop μ-loop
 sub-i c = let N = numbers (c .before .loop .inv) in omega arith
 
--- src/picks.rt:18:25
 rem-room : tie.Need-rem-room Inv-loop μ-loop
 rem-room c = let N = numbers (c .before .loop .inv) in omega arith
 
--- src/picks.rt:18:24
 cast-room : tie.Need-cast-room Inv-loop μ-loop
 cast-room c = let N = numbers (c .before .loop .inv) in let m = mod-lt (c .before .loop .left) (N .positive) in omega arith
 
--- src/picks.rt:18:14
 add-room : tie.Need-add-room Inv-loop μ-loop
 add-room c = let N = numbers (c .before .loop .inv) in omega arith
 
--- src/picks.rt:18:9
 mul-room : tie.Need-mul-room Inv-loop μ-loop
 mul-room c = let N = numbers (c .before .loop .inv) in omega arith
 
--- src/picks.rt:18:9
 slice-write-room : tie.Need-slice-write-room Inv-loop μ-loop
 slice-write-room c = let N = numbers (c .before .loop .inv) in omega arith
 
--- src/picks.rt:19:16
 div-left : tie.Need-div-left Inv-loop μ-loop
 div-left c = let N = numbers (c .before .loop .inv) in omega arith
 
--- src/picks.rt:16:5
 loop-less : tie.Need-loop-less Inv-loop μ-loop
 loop-less c = let N = numbers (c .before .loop .inv) in omega arith
 
--- src/picks.rt:16:5
 loop-again : tie.Need-loop-again Inv-loop μ-loop
 loop-again c = digit-decoded (c .before .loop .inv) (c .loop-test .taken)
 
--- src/picks.rt:10:1
 same-length : tie.Need-same-length Inv-loop μ-loop
 same-length c = let N = numbers (c .before .loop .inv) in omega arith
 
--- src/picks.rt:10:1
 returns : tie.Need-returns Inv-loop μ-loop
 returns c = all-decoded (c .before .loop .inv) (c .loop-test .left)
 

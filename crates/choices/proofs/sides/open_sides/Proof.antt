@@ -4,63 +4,48 @@ use borrow.Author.Needs.{needs}
 use Rattle.choices.proofs.sides.open_sides.Statement.{statement}
 use Rattle.choices.proofs.sides.open_sides.Tie as tie
 
--- src/sides.rt:32:16
 add-body : tie.Need-add-body
 add-body c = search needs
 
--- src/sides.rt:33:25
 add-us : tie.Need-add-us
 add-us c = search needs
 
--- src/sides.rt:33:14
 add-us-2 : tie.Need-add-us-2
 add-us-2 c = search needs
 
--- src/sides.rt:34:9
 note-members-requires : tie.Need-note-members-requires
 note-members-requires c κs = first-parts (c .before .before .before .pre .open-there)
 
--- src/sides.rt:35:9
 note-members-requires-2 : tie.Need-note-members-requires-2
 note-members-requires-2 c κs = second-parts (c .before .before .before .before .before .before .before .pre .open-there) _ (c .before .before .before .note-members .ensures .0) (c .before .before .before .note-members .ensures .1)
 
--- src/sides.rt:36:23
 add-wide : tie.Need-add-wide
 add-wide c = let O = c .before .before .before .before .before .before .before .before .before .before .pre .open-there in let L = all-long (c .before .before .before .before .before .before .before .before .before .before .pre .open-there) _ (c .before .before .before .before .before .before .note-members .ensures .0) (c .before .before .before .before .before .before .note-members .ensures .1) _ (c .before .before .note-members2 .ensures .0) (c .before .before .note-members2 .ensures .1) in omega (arith, L .0, L .1, L .2, c .before .before .before .before .before .before .before .before .before .before .pre .open-there .space, c .before .before .before .before .before .before .before .before .before .before .pre .open-there .small)
 
--- src/sides.rt:36:18
 mul-wide : tie.Need-mul-wide
 mul-wide c = let O = c .before .before .before .before .before .before .before .before .before .before .pre .open-there in let L = all-long (c .before .before .before .before .before .before .before .before .before .before .pre .open-there) _ (c .before .before .before .before .before .before .note-members .ensures .0) (c .before .before .before .before .before .before .note-members .ensures .1) _ (c .before .before .note-members2 .ensures .0) (c .before .before .note-members2 .ensures .1) in omega (arith, L .0, L .1, L .2, c .before .before .before .before .before .before .before .before .before .before .pre .open-there .space, c .before .before .before .before .before .before .before .before .before .before .pre .open-there .small)
 
--- src/sides.rt:36:18
 slice-read-wide : tie.Need-slice-read-wide
 slice-read-wide c = let O = c .before .before .before .before .before .before .before .before .before .before .before .pre .open-there in let L = all-long (c .before .before .before .before .before .before .before .before .before .before .before .pre .open-there) _ (c .before .before .before .before .before .before .before .note-members .ensures .0) (c .before .before .before .before .before .before .before .note-members .ensures .1) _ (c .before .before .before .note-members2 .ensures .0) (c .before .before .before .note-members2 .ensures .1) in omega (arith, L .0, L .1, L .2, c .before .before .before .before .before .before .before .before .before .before .before .pre .open-there .space, c .before .before .before .before .before .before .before .before .before .before .before .pre .open-there .small)
 
--- src/sides.rt:36:9
 wide-requires : tie.Need-wide-requires
 wide-requires c κs = search needs
 
--- src/sides.rt:37:23
 add-wide-2 : tie.Need-add-wide-2
 add-wide-2 c = let O = c .before .before .before .before .before .before .before .before .before .before .before .before .pre .open-there in let L = all-long (c .before .before .before .before .before .before .before .before .before .before .before .before .pre .open-there) _ (c .before .before .before .before .before .before .before .before .note-members .ensures .0) (c .before .before .before .before .before .before .before .before .note-members .ensures .1) _ (c .before .before .before .before .note-members2 .ensures .0) (c .before .before .before .before .note-members2 .ensures .1) in omega (arith, L .0, L .1, L .2, c .before .before .before .before .before .before .before .before .before .before .before .before .pre .open-there .space, c .before .before .before .before .before .before .before .before .before .before .before .before .pre .open-there .small)
 
--- src/sides.rt:37:18
 mul-wide-2 : tie.Need-mul-wide-2
 mul-wide-2 c = let O = c .before .before .before .before .before .before .before .before .before .before .before .before .pre .open-there in let L = all-long (c .before .before .before .before .before .before .before .before .before .before .before .before .pre .open-there) _ (c .before .before .before .before .before .before .before .before .note-members .ensures .0) (c .before .before .before .before .before .before .before .before .note-members .ensures .1) _ (c .before .before .before .before .note-members2 .ensures .0) (c .before .before .before .before .note-members2 .ensures .1) in omega (arith, L .0, L .1, L .2, c .before .before .before .before .before .before .before .before .before .before .before .before .pre .open-there .space, c .before .before .before .before .before .before .before .before .before .before .before .before .pre .open-there .small)
 
--- src/sides.rt:37:18
 slice-read-wide-2 : tie.Need-slice-read-wide-2
 slice-read-wide-2 c = let O = c .before .before .before .before .before .before .before .before .before .before .before .before .before .pre .open-there in let L = all-long (c .before .before .before .before .before .before .before .before .before .before .before .before .before .pre .open-there) _ (c .before .before .before .before .before .before .before .before .before .note-members .ensures .0) (c .before .before .before .before .before .before .before .before .before .note-members .ensures .1) _ (c .before .before .before .before .before .note-members2 .ensures .0) (c .before .before .before .before .before .note-members2 .ensures .1) in omega (arith, L .0, L .1, L .2, c .before .before .before .before .before .before .before .before .before .before .before .before .before .pre .open-there .space, c .before .before .before .before .before .before .before .before .before .before .before .before .before .pre .open-there .small)
 
--- src/sides.rt:37:9
 wide-requires-2 : tie.Need-wide-requires-2
 wide-requires-2 c κs = search needs
 
--- src/sides.rt:20:1
 same-length : tie.Need-same-length
 same-length c = search needs
 
--- src/sides.rt:20:1
 returns : tie.Need-returns
 returns c = record { opened = λ k t u O. sides-open O _ (c .before .before .before .before .before .before .before .before .before .before .note-members .ensures .0) (c .before .before .before .before .before .before .before .before .before .before .note-members .ensures .1) _ (c .before .before .before .before .before .before .note-members2 .ensures .0) (c .before .before .before .before .before .before .note-members2 .ensures .1) (c .before .before .wide .ensures) (c .wide2 .ensures) }
 

@@ -14,17 +14,26 @@ enum-told c = search needs
 keep-requires : tie.Need-keep-requires
 keep-requires c κs = drop-arm-parts (c .before .before .before .before .before .pre .here)
 
+of-sized-requires : tie.Need-of-sized-requires
+of-sized-requires c κs = search needs
+
 enum-told-2 : tie.Need-enum-told-2
 enum-told-2 c = search needs
 
 finish-requires : tie.Need-finish-requires
 finish-requires c κs = bind-arm-parts (c .before .before .before .before .before .pre .here) (c .before .enum-told2 .given .1)
 
+of-sized-requires-2 : tie.Need-of-sized-requires-2
+of-sized-requires-2 c κs = search needs
+
 enum-told-3 : tie.Need-enum-told-3
 enum-told-3 c = search needs
 
 postpone-requires : tie.Need-postpone-requires
 postpone-requires c κs = postpone-arm-parts (c .before .before .before .before .before .pre .here) (c .before .enum-told3 .given .1)
+
+of-sized-requires-3 : tie.Need-of-sized-requires-3
+of-sized-requires-3 c κs = search needs
 
 enum-told-4 : tie.Need-enum-told-4
 enum-told-4 c = search needs
@@ -74,6 +83,9 @@ sub-decompose-3 c =
 decompose-requires : tie.Need-decompose-requires
 decompose-requires c κs = decompose-arm-parts (c .before .before .before .before .before .before .before .pre .here) (c .before .before .before .enum-told4 .given .1)
 
+of-sized-requires-4 : tie.Need-of-sized-requires-4
+of-sized-requires-4 c κs = search needs
+
 enum-told-5 : tie.Need-enum-told-5
 enum-told-5 c = search needs
 
@@ -84,25 +96,25 @@ same-length : tie.Need-same-length
 same-length c = search needs
 
 returns : tie.Need-returns
-returns c = record { taken = λ st e es node S o n. drop-arm S (c .before .before .before .before .enum-told .given .1) (c .before .before .keep .ensures) o; beside = λ st e es S. finished-beside (c .before .before .keep .ensures) }
+returns c = rw (c .of-sized .ensures) (record { taken = λ st e es node S o n. drop-arm S (c .before .before .before .before .before .enum-told .given .1) (c .before .before .before .keep .ensures) o; beside = λ st e es S. finished-beside (c .before .before .before .keep .ensures) })
 
 same-length-2 : tie.Need-same-length-2
 same-length-2 c = search needs
 
 returns-2 : tie.Need-returns-2
-returns-2 c = record { taken = λ st e es node S o n. bind-arm S (c .before .before .before .before .enum-told2 .given .1) (c .before .before .finish .ensures) o; beside = λ st e es S. finished-beside (c .before .before .finish .ensures) }
+returns-2 c = rw (c .of-sized2 .ensures) (record { taken = λ st e es node S o n. bind-arm S (c .before .before .before .before .before .enum-told2 .given .1) (c .before .before .before .finish .ensures) o; beside = λ st e es S. finished-beside (c .before .before .before .finish .ensures) })
 
 same-length-3 : tie.Need-same-length-3
 same-length-3 c = search needs
 
 returns-3 : tie.Need-returns-3
-returns-3 c = record { taken = λ st e es node S o n. postpone-arm S (c .before .before .before .before .enum-told3 .given .1) (c .before .before .postpone .ensures) o; beside = λ st e es S. postpone-beside _ (omega (arith, S .held .rows .next-row)) (c .before .before .postpone .ensures) }
+returns-3 c = rw (c .of-sized3 .ensures) (record { taken = λ st e es node S o n. postpone-arm S (c .before .before .before .before .before .enum-told3 .given .1) (c .before .before .before .postpone .ensures) o; beside = λ st e es S. postpone-beside _ (omega (arith, S .held .rows .next-row)) (c .before .before .before .postpone .ensures) })
 
 same-length-4 : tie.Need-same-length-4
 same-length-4 c = search needs
 
 returns-4 : tie.Need-returns-4
-returns-4 c = record { taken = λ st e es node S o n. decompose-arm S (c .before .before .before .before .before .before .enum-told4 .given .1) (c .before .before .before .before .terms-after .ensures .0) (c .before .before .decompose .ensures) o; beside = λ st e es S. decompose-beside _ _ (decompose-arm-parts S (c .before .before .before .before .before .before .enum-told4 .given .1)) (c .before .before .decompose .ensures) }
+returns-4 c = rw (c .of-sized4 .ensures) (record { taken = λ st e es node S o n. decompose-arm S (c .before .before .before .before .before .before .before .enum-told4 .given .1) (c .before .before .before .before .before .terms-after .ensures .0) (c .before .before .before .decompose .ensures) o; beside = λ st e es S. decompose-beside _ _ (decompose-arm-parts S (c .before .before .before .before .before .before .before .enum-told4 .given .1)) (c .before .before .before .decompose .ensures) })
 
 returns-5 : tie.Need-returns-5
 returns-5 c = record { taken = λ st e es node S o n. absurd (n _ (c .enum-told5 .given .1)); beside = λ st e es S. beside-same }
@@ -116,10 +128,13 @@ take-step-spec =
     (tie.spec
     enum-told
     keep-requires
+    of-sized-requires
     enum-told-2
     finish-requires
+    of-sized-requires-2
     enum-told-3
     postpone-requires
+    of-sized-requires-3
     enum-told-4
     add-body
     mul-terms-after
@@ -132,6 +147,7 @@ take-step-spec =
     sub-decompose-2
     sub-decompose-3
     decompose-requires
+    of-sized-requires-4
     enum-told-5
     enum-told-6
     same-length

@@ -82,11 +82,14 @@ add-finish-pile-2 c = search needs
 finish-pile-requires : tie.Need-finish-pile-requires
 finish-pile-requires c κs = join-parts (c .before .before .before .before .before .before .before .before .before .before .before .before .before .args .arities .now) (c .before .before .before .before .before .before .before .before .before .before .before .before .before .pre) (c .before .before .before .before .before .before .before .before .gather .ensures .0) (c .before .before .before .before .before .before .before .before .gather .ensures .1) (c .before .if2 .left)
 
+of-sized-requires : tie.Need-of-sized-requires
+of-sized-requires c κs = search needs
+
 same-length-3 : tie.Need-same-length-3
-same-length-3 c = finished-length (c .before .before .finish-pile .ensures) ∙ value-long (c .before .before .before .before .before .before .before .before .before .before .before .before .before .before .before .before .args .arities .now) (c .before .before .before .before .before .before .before .before .before .before .before .before .before .before .before .before .pre) (c .before .before .before .before .before .before .before .before .before .before .before .gather .ensures .0) (c .before .before .before .before .before .before .before .before .before .before .before .gather .ensures .1)
+same-length-3 c = finished-length (c .before .before .before .finish-pile .ensures) ∙ value-long (c .before .before .before .before .before .before .before .before .before .before .before .before .before .before .before .before .before .args .arities .now) (c .before .before .before .before .before .before .before .before .before .before .before .before .before .before .before .before .before .pre) (c .before .before .before .before .before .before .before .before .before .before .before .before .gather .ensures .0) (c .before .before .before .before .before .before .before .before .before .before .before .before .gather .ensures .1)
 
 returns-3 : tie.Need-returns-3
-returns-3 c = joined-live (c .before .before .before .before .before .before .before .before .before .before .before .before .before .before .before .before .args .arities .now) (c .before .before .before .before .before .before .before .before .before .before .before .before .before .before .before .before .pre) (c .before .before .before .before .before .before .before .before .before .before .before .gather .ensures .0) (c .before .before .before .before .before .before .before .before .before .before .before .gather .ensures .1) (c .before .before .before .before .before .before .is-in .ensures) (c .before .before .before .before .before .if1 .left) (c .before .before .before .before .if2 .left) (c .before .before .finish-pile .ensures)
+returns-3 c = rw (c .of-sized .ensures) (joined-live (c .before .before .before .before .before .before .before .before .before .before .before .before .before .before .before .before .before .args .arities .now) (c .before .before .before .before .before .before .before .before .before .before .before .before .before .before .before .before .before .pre) (c .before .before .before .before .before .before .before .before .before .before .before .before .gather .ensures .0) (c .before .before .before .before .before .before .before .before .before .before .before .before .gather .ensures .1) (c .before .before .before .before .before .before .before .is-in .ensures) (c .before .before .before .before .before .before .if1 .left) (c .before .before .before .before .before .if2 .left) (c .before .before .before .finish-pile .ensures))
 
 pub join-spec : {M : Type 1} → statement M
 join-spec =
@@ -112,5 +115,6 @@ join-spec =
     add-finish-pile
     add-finish-pile-2
     finish-pile-requires
+    of-sized-requires
     same-length-3
     returns-3)

@@ -6,60 +6,49 @@ use borrow.Author.Needs.{needs}
 use Rattle.rows.proofs.first.first_of.Statement.{statement}
 use Rattle.rows.proofs.first.first_of.Tie as tie
 
--- src/first.rt:25:9
 end-of-term-requires : tie.Need-end-of-term-requires
 end-of-term-requires c κs = search needs
 
--- src/first.rt:26:17
 mul-other : tie.Need-mul-other
 mul-other c =
     let k = term-within (c .before .before .before .args .arities .now) (c .before .before .before .args .words .now) (c .end-of-term .ensures) in
     omega (arith, c .before .before .before .pre)
 
--- src/first.rt:26:17
 sub-other : tie.Need-sub-other
 sub-other c =
     let k = term-within (c .before .before .before .args .arities .now) (c .before .before .before .args .words .now) (c .end-of-term .ensures) in
     omega (arith, c .before .before .before .pre)
 
--- src/first.rt:26:17
 part-other-start : tie.Need-part-other-start
 part-other-start c =
     let k = term-within (c .before .before .before .args .arities .now) (c .before .before .before .args .words .now) (c .end-of-term .ensures) in
     omega (arith, c .before .before .before .pre)
 
--- src/first.rt:26:17
 part-other-end : tie.Need-part-other-end
 part-other-end c = search needs
 
--- src/first.rt:27:9
 end-of-term-requires-2 : tie.Need-end-of-term-requires-2
 end-of-term-requires-2 c κs = search needs
 
--- src/first.rt:28:34
 slice-aggregate-step-for : tie.Need-slice-aggregate-step-for
 slice-aggregate-step-for c =
     let k = term-within (c .before .before .before .before .before .before .args .arities .now) (c .before .before .before .before .before .before .args .words .now) (c .before .before .before .end-of-term .ensures) in
     sym (length-take-le _ _ k)
 
--- src/first.rt:28:51
 slice-aggregate-step-for-2 : tie.Need-slice-aggregate-step-for-2
 slice-aggregate-step-for-2 c = sym (second-length _ _ (c .before .before .before .before .end-of-term .ensures) (c .before .before .end-of-term2 .ensures))
 
--- src/first.rt:28:9
 step-for-requires : tie.Need-step-for-requires
 step-for-requires c κs =
     let k = term-within (c .before .before .before .before .before .before .before .args .arities .now) (c .before .before .before .before .before .before .before .args .words .now) (c .before .before .before .before .end-of-term .ensures) in
     let w = second-within _ _ (c .before .before .before .before .end-of-term .ensures) (c .before .before .end-of-term2 .ensures) in
     (rw (length-first _ k) (omega (arith, c .before .before .before .before .before .before .before .pre)), rw (second-length _ _ (c .before .before .before .before .end-of-term .ensures) (c .before .before .end-of-term2 .ensures)) (omega (arith, c .before .before .before .before .before .before .before .pre)))
 
--- src/first.rt:29:15
 add-end : tie.Need-add-end
 add-end c =
     let w = second-within _ _ (c .before .before .before .before .before .end-of-term .ensures) (c .before .before .before .end-of-term2 .ensures) in
     omega (arith, c .before .before .before .before .before .before .before .before .pre)
 
--- src/first.rt:21:1
 returns : tie.Need-returns
 returns c = first-found _ _ (c .before .before .before .before .before .end-of-term .ensures) (c .before .before .before .end-of-term2 .ensures) (c .step-for .ensures)
 

@@ -4,27 +4,21 @@ use borrow.Author.Needs.{needs}
 use Rattle.rows.proofs.first.rest_of.Statement.{statement}
 use Rattle.rows.proofs.first.rest_of.Tie as tie
 
--- src/first.rt:73:14
 add-at : tie.Need-add-at
 add-at c = search needs
 
--- src/first.rt:73:14
 add-at-2 : tie.Need-add-at-2
 add-at-2 c = search needs
 
--- src/first.rt:74:19
 sub-pending : tie.Need-sub-pending
 sub-pending c = search needs
 
--- src/first.rt:76:17
 sub-bound : tie.Need-sub-bound
 sub-bound c = search needs
 
--- src/first.rt:76:17
 sub-bound-2 : tie.Need-sub-bound-2
 sub-bound-2 c = search needs
 
--- src/first.rt:69:1
 returns : tie.Need-returns
 unfolding rest-after
 returns c = refl

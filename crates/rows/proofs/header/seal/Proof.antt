@@ -4,39 +4,30 @@ use borrow.Author.Needs.{needs}
 use Rattle.rows.proofs.header.seal.Statement.{statement}
 use Rattle.rows.proofs.header.seal.Tie as tie
 
--- src/header.rt:25:9
 cast-t5 : tie.Need-cast-t5
 cast-t5 c = search needs
 
--- src/header.rt:26:9
 cast-t6 : tie.Need-cast-t6
 cast-t6 c = search needs
 
--- src/header.rt:27:9
 cast-t7 : tie.Need-cast-t7
 cast-t7 c = search needs
 
--- src/header.rt:28:9
 cast-t8 : tie.Need-cast-t8
 cast-t8 c = search needs
 
--- src/header.rt:29:9
 cast-t9 : tie.Need-cast-t9
 cast-t9 c = search needs
 
--- src/header.rt:34:29
 slice-aggregate-copy-in : tie.Need-slice-aggregate-copy-in
 slice-aggregate-copy-in c = search needs
 
--- src/header.rt:34:5
 copy-in-requires : tie.Need-copy-in-requires
 copy-in-requires c κs = search needs
 
--- src/header.rt:20:1
 same-length : tie.Need-same-length
 same-length c = search needs
 
--- src/header.rt:20:1
 returns : tie.Need-returns
 unfolding put header-of
 returns c = search needs

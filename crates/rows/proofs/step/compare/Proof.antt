@@ -4,39 +4,30 @@ use borrow.Author.Needs.{needs}
 use Rattle.rows.proofs.step.compare.Statement.{statement}
 use Rattle.rows.proofs.step.compare.Tie as tie
 
--- src/step.rt:70:9
 word-at-requires : tie.Need-word-at-requires
 word-at-requires c κs = search needs
 
--- src/step.rt:71:17
 word-at-requires-2 : tie.Need-word-at-requires-2
 word-at-requires-2 c κs = search needs
 
--- src/step.rt:72:9
 returns : tie.Need-returns
 returns c = compared-apart _ _ _ (λ e. c .if1 .taken (c .before .before .word-at .ensures ∙ e ∙ sym (c .before .word-at2 .ensures)))
 
--- src/step.rt:75:9
 returns-2 : tie.Need-returns-2
 returns-2 c = compared-empty _ _ _ (sym (c .before .before .before .word-at .ensures) ∙ c .before .if1 .left ∙ c .before .before .word-at2 .ensures) (sym (c .before .before .before .word-at .ensures) ∙ c .if2 .taken)
 
--- src/step.rt:78:43
 word-of-kernel-requires : tie.Need-word-of-kernel-requires
 word-of-kernel-requires c κs = search needs
 
--- src/step.rt:78:74
 word-of-kernel-requires-2 : tie.Need-word-of-kernel-requires-2
 word-of-kernel-requires-2 c κs = search needs
 
--- src/step.rt:78:28
 tails-by-words-requires : tie.Need-tails-by-words-requires
 tails-by-words-requires c κs = search needs
 
--- src/step.rt:78:9
 returns-3 : tie.Need-returns-3
 returns-3 c = rw (c .tails-by-words .ensures, c .before .word-of-kernel2 .ensures, c .before .before .word-of-kernel .ensures) (compared-sets _ _ _ (sym (c .before .before .before .before .before .before .before .word-at .ensures) ∙ c .before .before .before .before .before .if1 .left ∙ c .before .before .before .before .before .before .word-at2 .ensures) (λ e. c .before .before .before .before .if2 .left (c .before .before .before .before .before .before .before .word-at .ensures ∙ e)) (sym (c .before .before .before .before .before .before .before .word-at .ensures) ∙ c .before .before .before .if3 .taken))
 
--- src/step.rt:66:1
 returns-4 : tie.Need-returns-4
 returns-4 c = compared-functors _ _ _ (sym (c .before .before .before .before .word-at .ensures) ∙ c .before .before .if1 .left ∙ c .before .before .before .word-at2 .ensures) (λ e. c .before .if2 .left (c .before .before .before .before .word-at .ensures ∙ e)) (λ e. c .if3 .left (c .before .before .before .before .word-at .ensures ∙ e))
 

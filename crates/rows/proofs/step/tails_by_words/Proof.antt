@@ -6,39 +6,31 @@ use borrow.Author.Needs.{needs}
 use Rattle.rows.proofs.step.tails_by_words.Statement.{statement}
 use Rattle.rows.proofs.step.tails_by_words.Tie as tie
 
--- src/step.rt:32:8
 is-unknown-requires : tie.Need-is-unknown-requires
 is-unknown-requires c κs = search needs
 
--- src/step.rt:33:12
 is-unknown-requires-2 : tie.Need-is-unknown-requires-2
 is-unknown-requires-2 c κs = search needs
 
--- src/step.rt:35:17
 returns : tie.Need-returns
 unfolding tails-by
 returns c = tails-told _ _ (sym (c .before .before .before .before .is-unknown .ensures) ∙ c .before .before .before .if1 .taken) (sym (c .before .before .is-unknown2 .ensures) ∙ c .before .if2 .taken) (eq-eqb _ _ (c .if3 .taken))
 
--- src/step.rt:37:13
 returns-2 : tie.Need-returns-2
 unfolding tails-by
 returns-2 c = tails-told _ _ (sym (c .before .before .before .before .is-unknown .ensures) ∙ c .before .before .before .if1 .taken) (sym (c .before .before .is-unknown2 .ensures) ∙ c .before .if2 .taken) (ne-eqb _ _ (c .if3 .left))
 
--- src/step.rt:39:9
 returns-3 : tie.Need-returns-3
 unfolding tails-by
 returns-3 c = tails-told _ _ (sym (c .before .before .before .is-unknown .ensures) ∙ c .before .before .if1 .taken) (sym (c .before .is-unknown2 .ensures) ∙ c .if2 .left) refl
 
--- src/step.rt:41:8
 is-unknown-requires-3 : tie.Need-is-unknown-requires-3
 is-unknown-requires-3 c κs = search needs
 
--- src/step.rt:42:9
 returns-4 : tie.Need-returns-4
 unfolding tails-by
 returns-4 c = tails-told _ _ (sym (c .before .before .before .is-unknown .ensures) ∙ c .before .before .if1 .left) (sym (c .before .is-unknown3 .ensures) ∙ c .if4 .taken) refl
 
--- src/step.rt:29:1
 returns-5 : tie.Need-returns-5
 unfolding tails-by
 returns-5 c = tails-told _ _ (sym (c .before .before .before .is-unknown .ensures) ∙ c .before .before .if1 .left) (sym (c .before .is-unknown3 .ensures) ∙ c .if4 .left) refl

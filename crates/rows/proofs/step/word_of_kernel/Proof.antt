@@ -3,15 +3,12 @@ use borrow.Author.Needs.{needs}
 use Rattle.rows.proofs.step.word_of_kernel.Statement.{statement}
 use Rattle.rows.proofs.step.word_of_kernel.Tie as tie
 
--- src/step.rt:25:20
 place-of-kernel-requires : tie.Need-place-of-kernel-requires
 place-of-kernel-requires c κs = search needs
 
--- src/step.rt:25:5
 word-at-requires : tie.Need-word-at-requires
 word-at-requires c κs = search needs
 
--- src/step.rt:21:1
 returns : tie.Need-returns
 unfolding kernel-word
 returns c = rw (c .before .place-of-kernel .ensures) at (c .word-at .ensures)

@@ -4,23 +4,18 @@ use borrow.Author.Needs.{needs}
 use Rattle.rows.proofs.walk.end_of_term.Statement.{statement}
 use Rattle.rows.proofs.walk.end_of_term.Tie as tie
 
--- src/walk.rt:66:33
 shared-slice-read-terms-after : tie.Need-shared-slice-read-terms-after
 shared-slice-read-terms-after c = search needs
 
--- src/walk.rt:66:12
 terms-after-requires : tie.Need-terms-after-requires
 terms-after-requires c κs = search needs
 
--- src/walk.rt:67:13
 returns : tie.Need-returns
 returns c = sym (term-end-one _ _ _ (c .before .before .before .if1 .taken) (sym (c .before .terms-after .ensures .0) ∙ c .if2 .taken))
 
--- src/walk.rt:70:5
 walk-to-end-requires : tie.Need-walk-to-end-requires
 walk-to-end-requires c κs = search needs
 
--- src/walk.rt:61:1
 returns-2 : tie.Need-returns-2
 returns-2 c = search needs
 

@@ -14,35 +14,27 @@ Inv-loop words x i₀ i = (holds x words ≡ holds x (drop i words)) × (i ≤ l
 abbrev μ-loop : tie.MeasureT-loop
 μ-loop words x i₀ i = length words - i
 
--- src/walk.rt:87:5
 loop-holds : tie.Need-loop-holds Inv-loop μ-loop
 loop-holds c = (refl, omega arith)
 
--- src/walk.rt:88:12
 mul-if1 : tie.Need-mul-if1 Inv-loop μ-loop
 mul-if1 c = search needs
 
--- src/walk.rt:88:12
 shared-slice-read-if1 : tie.Need-shared-slice-read-if1 Inv-loop μ-loop
 shared-slice-read-if1 c = search needs
 
--- src/walk.rt:89:13
 returns : tie.Need-returns Inv-loop μ-loop
 returns c = sym (c .before .before .before .loop .inv .0 ∙ holds-here _ _ _ (c .before .before .loop-test .taken) (c .if1 .taken))
 
--- src/walk.rt:91:9
 add-i : tie.Need-add-i Inv-loop μ-loop
 add-i c = search needs
 
--- src/walk.rt:87:5
 loop-less : tie.Need-loop-less Inv-loop μ-loop
 loop-less c = search needs
 
--- src/walk.rt:87:5
 loop-again : tie.Need-loop-again Inv-loop μ-loop
 loop-again c = (c .before .before .before .loop .inv .0 ∙ holds-after _ _ _ (c .before .before .loop-test .taken) (c .if1 .left), omega arith)
 
--- src/walk.rt:83:1
 returns-2 : tie.Need-returns-2 Inv-loop μ-loop
 returns-2 c = sym (c .before .loop .inv .0 ∙ holds-nowhere _ _ _ (c .loop-test .left))
 

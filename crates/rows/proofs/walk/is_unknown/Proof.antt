@@ -3,12 +3,10 @@ use Rattle.terms.specs.Kind.{within}
 use Rattle.rows.proofs.walk.is_unknown.Statement.{statement}
 use Rattle.rows.proofs.walk.is_unknown.Tie as tie
 
--- src/walk.rt:20:1
 returns : tie.Need-returns
 unfolding within
 returns c = rw (le-leb 1000 (c .before .args .word) (c .if1 .taken))
 
--- src/walk.rt:20:1
 returns-2 : tie.Need-returns-2
 unfolding within
 returns-2 c = rw (lt-leb 1000 (c .before .args .word) (c .if1 .left))

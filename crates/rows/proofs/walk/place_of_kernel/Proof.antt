@@ -14,76 +14,60 @@ Inv-loop arities words place₀ due₀ place due = (stripped edition-one arities
 abbrev μ-loop : tie.MeasureT-loop
 μ-loop arities words place₀ due₀ place due = length words - place
 
--- src/walk.rt:67:5
 loop-holds : tie.Need-loop-holds Inv-loop μ-loop
 loop-holds c = (refl, omega arith, omega arith)
 
--- src/walk.rt:69:19
 sub-due : tie.Need-sub-due Inv-loop μ-loop
 sub-due c = search needs
 
--- src/walk.rt:69:50
 mul-terms-after : tie.Need-mul-terms-after Inv-loop μ-loop
 mul-terms-after c = search needs
 
--- src/walk.rt:69:50
 shared-slice-read-terms-after : tie.Need-shared-slice-read-terms-after Inv-loop μ-loop
 shared-slice-read-terms-after c = search needs
 
--- src/walk.rt:69:29
 terms-after-requires : tie.Need-terms-after-requires Inv-loop μ-loop
 terms-after-requires c κs = search needs
 
--- src/walk.rt:69:19
 add-due : tie.Need-add-due Inv-loop μ-loop
 add-due c = omega (arith, c .terms-after .ensures .1)
 
--- src/walk.rt:70:13
 add-place : tie.Need-add-place Inv-loop μ-loop
 add-place c = search needs
 
--- src/walk.rt:67:5
 loop-less : tie.Need-loop-less Inv-loop μ-loop
 loop-less c = search needs
 
--- src/walk.rt:67:5
 loop-again : tie.Need-loop-again Inv-loop μ-loop
 loop-again c =
     let l = c .before .before .before .before in
     let t = c .before .before in
     (l .loop .inv .0 ∙ rw (c .terms-after .ensures .0) (stripped-on _ _ _ _ (t .before .loop-test .taken) _ (t .if1 .taken)), omega arith, omega (arith, c .terms-after .ensures .1))
 
--- src/walk.rt:72:16
 mul-if2 : tie.Need-mul-if2 Inv-loop μ-loop
 mul-if2 c = search needs
 
--- src/walk.rt:72:16
 shared-slice-read-if2 : tie.Need-shared-slice-read-if2 Inv-loop μ-loop
 shared-slice-read-if2 c = search needs
 
--- src/walk.rt:73:17
 returns : tie.Need-returns Inv-loop μ-loop
 returns c =
     let l = c .before .before .before .before in
     let z : l .loop .due ≡ 0 = omega arith in
     sym (rw z at (l .loop .inv .0) ∙ stripped-stop _ _ _ _ (c .before .before .before .loop-test .taken) (c .if2 .taken))
 
--- src/walk.rt:76:13
 add-place-2 : tie.Need-add-place-2 Inv-loop μ-loop
 add-place-2 c = search needs
 
--- src/walk.rt:67:5
 loop-less-2 : tie.Need-loop-less-2 Inv-loop μ-loop
 loop-less-2 c = search needs
 
--- src/walk.rt:67:5
 loop-again-2 : tie.Need-loop-again-2 Inv-loop μ-loop
 loop-again-2 c =
     let l = c .before .before .before .before in
     let z : l .loop .due ≡ 0 = omega arith in
     (rw z at (l .loop .inv .0) ∙ stripped-mark _ _ _ _ (c .before .before .before .loop-test .taken) (c .if2 .left), omega arith, omega arith)
 
--- src/walk.rt:61:1
 returns-2 : tie.Need-returns-2 Inv-loop μ-loop
 returns-2 c = sym (c .before .loop .inv .0 ∙ stripped-out _ _ _ _ _ (c .loop-test .left))
 

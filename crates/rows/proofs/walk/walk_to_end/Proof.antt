@@ -16,52 +16,41 @@ Inv-loop arities words place₀ due₀ place due = (span edition-one arities wor
 abbrev μ-loop : tie.MeasureT-loop
 μ-loop arities words place₀ due₀ place due = length words - place
 
--- src/walk.rt:50:5
 loop-holds : tie.Need-loop-holds Inv-loop μ-loop
 loop-holds c = (sym (zero-add _), omega arith, omega arith)
 
--- src/walk.rt:52:13
 returns : tie.Need-returns Inv-loop μ-loop
 returns c =
     let l = c .before .before .loop in
     sym (l .inv .0 ∙ span-out edition-one _ _ _ _ (l .inv .1) (omega arith) ∙ omega arith)
 
--- src/walk.rt:54:15
 sub-due : tie.Need-sub-due Inv-loop μ-loop
 sub-due c = search needs
 
--- src/walk.rt:54:46
 mul-terms-after : tie.Need-mul-terms-after Inv-loop μ-loop
 mul-terms-after c = search needs
 
--- src/walk.rt:54:46
 shared-slice-read-terms-after : tie.Need-shared-slice-read-terms-after Inv-loop μ-loop
 shared-slice-read-terms-after c = search needs
 
--- src/walk.rt:54:25
 terms-after-requires : tie.Need-terms-after-requires Inv-loop μ-loop
 terms-after-requires c κs = search needs
 
--- src/walk.rt:54:15
 add-due : tie.Need-add-due Inv-loop μ-loop
 add-due c = omega (arith, c .terms-after .ensures .1)
 
--- src/walk.rt:55:9
 add-place : tie.Need-add-place Inv-loop μ-loop
 add-place c = search needs
 
--- src/walk.rt:50:5
 loop-less : tie.Need-loop-less Inv-loop μ-loop
 loop-less c = search needs
 
--- src/walk.rt:50:5
 loop-again : tie.Need-loop-again Inv-loop μ-loop
 loop-again c =
     let l = c .before .before .before .before in
     let t = c .before .before in
     (l .loop .inv .0 ∙ span-step edition-one _ _ _ (t .if1 .left) (c .terms-after .ensures .0) _ (t .before .loop-test .taken), omega arith, omega (arith, c .terms-after .ensures .1))
 
--- src/walk.rt:44:1
 returns-2 : tie.Need-returns-2 Inv-loop μ-loop
 returns-2 c =
     let l = c .before in

@@ -1,5 +1,7 @@
-use Rattle.tails.proofs.Making.{not-large, not-dead, not-names}
+use Rattle.tails.proofs.Making.{not-large}
 use Rattle.splits.proofs.Twice.{first-parts, second-parts, twice-made, twice-kept, twice-large}
+use mathlib.Core.Path.{ap}
+use Rattle.rows.specs.Made.{of-sized}
 use borrow.Author.Needs.{needs}
 use Rattle.splits.proofs.different.bind_twice.Statement.{statement}
 use Rattle.splits.proofs.different.bind_twice.Tie as tie
@@ -35,40 +37,25 @@ enum-told : tie.Need-enum-told
 enum-told c = search needs
 
 bind-again-requires : tie.Need-bind-again-requires
-bind-again-requires c κs = second-parts (c .before .before .before .before .before .before .before .before .before .pre .parts) (c .before .before .before .before .before .bound .ensures) (c .before .enum-told .given .1)
+unfolding of-sized
+bind-again-requires c κs = second-parts (c .before .before .before .before .before .before .before .before .before .pre .parts) (c .before .before .before .before .before .bound .ensures) (ap of-sized (c .before .enum-told .given .1))
 
 enum-told-2 : tie.Need-enum-told-2
 enum-told-2 c = search needs
-
-enum-told-3 : tie.Need-enum-told-3
-enum-told-3 c = search needs
-
-enum-told-4 : tie.Need-enum-told-4
-enum-told-4 c = search needs
 
 same-length : tie.Need-same-length
 same-length c = search needs
 
 returns : tie.Need-returns
-returns c = record { makes = λ p s r D. twice-made D (c .before .before .before .before .before .before .before .before .bound .ensures) (c .before .before .before .before .enum-told .given .1) (c .before .before .bind-again .ensures); kept = twice-kept (c .before .before .before .before .before .before .before .before .before .before .before .before .pre .parts) (c .before .before .before .before .before .before .before .before .bound .ensures) (c .before .before .bind-again .ensures) }
+unfolding of-sized
+returns c = record { makes = λ p s r D. twice-made D (c .before .before .before .before .before .before .before .before .bound .ensures) (ap of-sized (c .before .before .before .before .enum-told .given .1)) (c .before .before .bind-again .ensures); kept = twice-kept (c .before .before .before .before .before .before .before .before .before .before .before .before .pre .parts) (c .before .before .before .before .before .before .before .before .bound .ensures) (c .before .before .bind-again .ensures) }
 
 same-length-2 : tie.Need-same-length-2
 same-length-2 c = search needs
 
 returns-2 : tie.Need-returns-2
-returns-2 c = record { makes = λ p s r D. twice-large D (c .before .before .before .before .bound .ensures) (not-large (c .enum-told2 .given .1)); kept = c .before .before .before .before .bound .ensures .kept }
-
-same-length-3 : tie.Need-same-length-3
-same-length-3 c = search needs
-
-returns-3 : tie.Need-returns-3
-returns-3 c = record { makes = λ p s r D. twice-large D (c .before .before .before .before .bound .ensures) (not-dead (c .enum-told3 .given .1)); kept = c .before .before .before .before .bound .ensures .kept }
-
-same-length-4 : tie.Need-same-length-4
-same-length-4 c = search needs
-
-returns-4 : tie.Need-returns-4
-returns-4 c = record { makes = λ p s r D. twice-large D (c .before .before .before .before .bound .ensures) (not-names (c .enum-told4 .given .1)); kept = c .before .before .before .before .bound .ensures .kept }
+unfolding of-sized
+returns-2 c = record { makes = λ p s r D. twice-large D (c .before .before .before .before .bound .ensures) (not-large (ap of-sized (c .enum-told2 .given .1))); kept = c .before .before .before .before .bound .ensures .kept }
 
 pub bind-twice-spec : {M : Type 1} → statement M
 bind-twice-spec =
@@ -86,13 +73,7 @@ bind-twice-spec =
     enum-told
     bind-again-requires
     enum-told-2
-    enum-told-3
-    enum-told-4
     same-length
     returns
     same-length-2
-    returns-2
-    same-length-3
-    returns-3
-    same-length-4
-    returns-4)
+    returns-2)

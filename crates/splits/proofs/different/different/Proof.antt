@@ -101,12 +101,15 @@ renew-requires : tie.Need-renew-requires
 unfolding seg
 renew-requires c κs = different-parts (c .before .before .before .before .before .before .before .before .before .before .before .before .before .before .before .before .before .before .before .pre .due) (c .before .before .before .before .before .before .before .before .before .before .before .before .before .before .before .before .before .before .before .pre .kind) (c .before .before .before .before .before .before .before .before .before .before .before .lay-joined .ensures) refl refl (c .before .before .before .crosses .ensures) (c .before .before .if1 .left) (c .before .if2 .left)
 
+of-sized-requires : tie.Need-of-sized-requires
+of-sized-requires c κs = search needs
+
 same-length-3 : tie.Need-same-length-3
 same-length-3 c = search needs
 
 returns-3 : tie.Need-returns-3
 unfolding seg
-returns-3 c = record { makes = λ p D k. different-made D k (c .before .before .before .before .before .before .before .before .before .before .before .before .before .before .lay-joined .ensures) refl refl (c .before .before .before .before .before .before .crosses .ensures) (c .before .before .before .before .before .if1 .left) (c .before .before .before .before .if2 .left) (c .before .before .renew .ensures); kept = λ p D k. elsewhere-next (joined-elsewhere D k (c .before .before .before .before .before .before .before .before .before .before .before .before .before .before .lay-joined .ensures)) (c .before .before .renew .ensures .kept) }
+returns-3 c = rw (c .of-sized .ensures) (record { makes = λ p D k. different-made D k (c .before .before .before .before .before .before .before .before .before .before .before .before .before .before .before .lay-joined .ensures) refl refl (c .before .before .before .before .before .before .before .crosses .ensures) (c .before .before .before .before .before .before .if1 .left) (c .before .before .before .before .before .if2 .left) (c .before .before .before .renew .ensures); kept = λ p D k. elsewhere-next (joined-elsewhere D k (c .before .before .before .before .before .before .before .before .before .before .before .before .before .before .before .lay-joined .ensures)) (c .before .before .before .renew .ensures .kept) })
 
 pub different-spec : {M : Type 1} → statement M
 different-spec =
@@ -142,5 +145,6 @@ different-spec =
     same-length-2
     returns-2
     renew-requires
+    of-sized-requires
     same-length-3
     returns-3)

@@ -1,5 +1,6 @@
 use Rattle.splits.proofs.BothBound.{share-elsewhere, renew-large, renew-parts, renew-made}
 use Rattle.choices.specs.OpenParent.{elsewhere-next}
+use Rattle.rows.specs.Made.{of-sized}
 use borrow.Author.Needs.{needs}
 use Rattle.splits.proofs.different.renew.Statement.{statement}
 use Rattle.splits.proofs.different.renew.Tie as tie
@@ -29,6 +30,7 @@ same-length-2 : tie.Need-same-length-2
 same-length-2 c = search needs
 
 returns-2 : tie.Need-returns-2
+unfolding of-sized
 returns-2 c = record { makes = λ l₀ p s r R. renew-large R (c .before .before .before .before .share .ensures) (c .enum-told .given .1); kept = share-elsewhere (c .before .before .before .before .before .before .before .before .before .pre .parts) (c .before .before .before .before .share .ensures) }
 
 pub renew-spec : {M : Type 1} → statement M

@@ -5,6 +5,7 @@ use Rattle.replace.specs.Fitting.{further}
 use Rattle.rows.specs.Wrote.{done-fits, done-length}
 use native.Mathlib.Omega.{arith}
 use mathlib.Core.Path.{refl}
+use Rattle.rows.specs.Made.{of-sized}
 use borrow.Author.Needs.{needs}
 use Rattle.splits.proofs.nothing_bound.neither.Statement.{statement}
 use Rattle.splits.proofs.nothing_bound.neither.Tie as tie
@@ -82,13 +83,14 @@ same-length-2 : tie.Need-same-length-2
 same-length-2 c = search needs
 
 returns-2 : tie.Need-returns-2
-unfolding further
+unfolding further of-sized
 returns-2 c = child-made (λ p D k. last-full D k (last-written D (plain D _ (s-place D) (s-apart D 1 (omega arith)) refl (rw (c .before .before .before .before .before .before .before .w .given .1) at (c .before .before .before .before .before .before .before .before .before .before .before .equations .ensures))) (rw (c .enum-told .given .1) at (c .before .before .before .before .tails-equation .ensures))))
 
 same-length-3 : tie.Need-same-length-3
 same-length-3 c = search needs
 
 returns-3 : tie.Need-returns-3
+unfolding of-sized
 returns-3 c = child-made (λ p D k. news-full D k (plain D _ (s-place D) (s-apart D 1 (omega arith)) refl (rw (c .enum-told2 .given .1) at (c .before .before .before .before .equations .ensures))))
 
 pub neither-spec : {M : Type 1} → statement M

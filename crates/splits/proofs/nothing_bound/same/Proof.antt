@@ -5,6 +5,7 @@ use Rattle.tails.proofs.Making.{child-made}
 use Rattle.choices.specs.OpenParent.{news}
 use native.Mathlib.Omega.{arith}
 use mathlib.Core.Path.{refl}
+use Rattle.rows.specs.Made.{of-sized}
 use borrow.Author.Needs.{needs}
 use Rattle.splits.proofs.nothing_bound.same.Statement.{statement}
 use Rattle.splits.proofs.nothing_bound.same.Tie as tie
@@ -64,6 +65,7 @@ same-length-2 : tie.Need-same-length-2
 same-length-2 c = search needs
 
 returns-2 : tie.Need-returns-2
+unfolding of-sized
 returns-2 c = child-made (λ p D k. same-full D (c .before .before .before .before .before .before .before .before .before .lay-entry .ensures) k (plain (due-laid D (c .before .before .before .before .before .before .before .before .before .lay-entry .ensures)) _ (s-place (due-laid D (c .before .before .before .before .before .before .before .before .before .lay-entry .ensures))) (s-apart (due-laid D (c .before .before .before .before .before .before .before .before .before .lay-entry .ensures)) 1 (omega arith)) refl (rw (c .enum-told .given .1) at (c .before .before .before .before .equations .ensures))))
 
 pub same-spec : {M : Type 1} → statement M

@@ -8,6 +8,9 @@ enum-told c = search needs
 neither-requires : tie.Need-neither-requires
 neither-requires c κs = rw (c .before .enum-told .given .1) at (c .before .before .before .before .before .pre)
 
+of-sized-requires : tie.Need-of-sized-requires
+of-sized-requires c κs = search needs
+
 enum-told-2 : tie.Need-enum-told-2
 enum-told-2 c = search needs
 
@@ -32,11 +35,14 @@ enum-told-5 c = search needs
 same-requires : tie.Need-same-requires
 same-requires c κs = rw (c .before .enum-told5 .given .1) at (c .before .before .before .before .before .pre)
 
+of-sized-requires-2 : tie.Need-of-sized-requires-2
+of-sized-requires-2 c κs = search needs
+
 same-length : tie.Need-same-length
 same-length c = search needs
 
 returns : tie.Need-returns
-returns c = rw (c .before .before .before .before .enum-told .given .1) (c .before .before .neither .ensures)
+returns c = rw (c .before .before .before .before .before .enum-told .given .1, c .of-sized .ensures) (c .before .before .before .neither .ensures)
 
 same-length-2 : tie.Need-same-length-2
 same-length-2 c = search needs
@@ -60,7 +66,7 @@ same-length-5 : tie.Need-same-length-5
 same-length-5 c = search needs
 
 returns-5 : tie.Need-returns-5
-returns-5 c = rw (c .before .before .before .before .enum-told5 .given .1) (c .before .before .same .ensures)
+returns-5 c = rw (c .before .before .before .before .before .enum-told5 .given .1, c .of-sized2 .ensures) (c .before .before .before .same .ensures)
 
 pub split-spec : {M : Type 1} → statement M
 split-spec =
@@ -68,6 +74,7 @@ split-spec =
     (tie.spec
     enum-told
     neither-requires
+    of-sized-requires
     enum-told-2
     left-requires
     enum-told-3
@@ -76,6 +83,7 @@ split-spec =
     different-requires
     enum-told-5
     same-requires
+    of-sized-requires-2
     same-length
     returns
     same-length-2

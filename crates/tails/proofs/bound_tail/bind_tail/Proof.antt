@@ -33,12 +33,15 @@ returns c = record { makes = λ p name value B. tail-dead B (c .before .is-in .e
 bound-requires : tie.Need-bound-requires
 bound-requires c κs = search needs
 
+of-sized-requires : tie.Need-of-sized-requires
+of-sized-requires c κs = search needs
+
 same-length-2 : tie.Need-same-length-2
 same-length-2 c = search needs
 
 returns-2 : tie.Need-returns-2
 unfolding seg
-returns-2 c = record { makes = λ p name value B. tail-bound B (c .before .before .before .before .before .is-in .ensures) (c .before .before .before .before .if1 .left) (c .before .before .bound .ensures); kept = c .before .before .bound .ensures .kept }
+returns-2 c = rw (c .of-sized .ensures) (record { makes = λ p name value B. tail-bound B (c .before .before .before .before .before .before .is-in .ensures) (c .before .before .before .before .before .if1 .left) (c .before .before .before .bound .ensures); kept = c .before .before .before .bound .ensures .kept })
 
 pub bind-tail-spec : {M : Type 1} → statement M
 bind-tail-spec =
@@ -53,5 +56,6 @@ bind-tail-spec =
     same-length
     returns
     bound-requires
+    of-sized-requires
     same-length-2
     returns-2)

@@ -1,5 +1,6 @@
 use Rattle.tails.proofs.Bounding.{bound-parts, finish-parts, bound-made, bound-full}
 use Rattle.tails.proofs.Making.{wrote-elsewhere, row-elsewhere}
+use Rattle.rows.specs.Made.{of-sized}
 use borrow.Author.Needs.{needs}
 use Rattle.tails.proofs.bound_tail.bound.Statement.{statement}
 use Rattle.tails.proofs.bound_tail.bound.Tie as tie
@@ -41,6 +42,7 @@ same-length-2 : tie.Need-same-length-2
 same-length-2 c = search needs
 
 returns-2 : tie.Need-returns-2
+unfolding of-sized
 returns-2 c = record { makes = λ p name value B. bound-full B (rw (c .enum-told .given .1) at (c .before .before .before .before .equations .ensures)); kept = wrote-elsewhere (c .before .before .before .before .before .before .before .before .pre .bound .target) (c .before .before .before .before .equations .ensures) }
 
 pub bound-spec : {M : Type 1} → statement M
