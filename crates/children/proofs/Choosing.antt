@@ -17,6 +17,8 @@ use Rattle.rows.specs.declared.first.First.{First}
 use Rattle.rows.specs.declared.header.Header.{Header}
 use Rattle.rows.specs.First.{first-in, header-in, HeaderParts, rest-after}
 use Rattle.rows.specs.Row.{header-for}
+use Rattle.plain_steps.specs.declared.plain.Plain.{Plain}
+use Rattle.plain_steps.specs.Plain.{of-plain}
 use Rattle.only_child.specs.Next.{Ready}
 use Rattle.only_child.specs.Quiet.{Quiet}
 use Rattle.only_child.specs.NoChoice.{Single}
@@ -71,12 +73,14 @@ module _ {arities l : List ℕ} {at number lent scratch most : ℕ} {st : State}
         next-is = next-is;
       }
 
-      pub single : ((kind : Tails) → f .step ≡ Split kind → ⊥) → Single arities l at rest f number lent (h .next) scratch most st (begins .first) (begins .others)
-      single n = record {
+      pub single : {p : Plain} → f .step ≡ of-plain p
+          → Single arities l at rest (record { step = p; right = f .right; end = f .end }) number lent (h .next) scratch most st (begins .first) (begins .others)
+      single e = record {
         ready = R;
         cut = begins .cut;
-        first-is = first-is;
+        step-is = sym e ∙ ap (λ g. g .step) first-is;
+        right-is = ap (λ g. g .right) first-is;
+        end-is = ap (λ g. g .end) first-is;
         rest-is = rest-is;
         next-is = next-is;
-        no-split = λ k p. n k (ap (λ g. g .step) first-is ∙ p);
       }

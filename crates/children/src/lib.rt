@@ -13,11 +13,13 @@ use only_child::no_choice::step_on;
 use only_child::quiet::join_pile;
 use openings::open_split::pick;
 use openings::open_split::pick_on;
+use plain_steps::plain::Forced;
+use plain_steps::plain::Way;
+use plain_steps::plain::way_of;
 use rows::first::first_of;
 use rows::first::read_header;
 use rows::first::rest_of;
 use rows::header::HEADER;
-use search::steps::Step;
 
 // The same, by the kind of the row: nothing is pending, or its first equation is a split, or it leaves no choice.
 fn find_child(
@@ -43,8 +45,8 @@ fn find_child(
     let first = first_of(arities, &room[body..last]);
     let rest = rest_of(at, header, first.end);
     let step = first.step;
-    match step {
-        Step::Split(tails) => {
+    match way_of(step) {
+        Way::Split(tails) => {
             let next = pick(
                 arities,
                 room,
@@ -61,13 +63,18 @@ fn find_child(
             );
             Looked { next, opens: true }
         }
-        _ => {
+        Way::Plain(step) => {
+            let forced = Forced {
+                step,
+                right: first.right,
+                end: first.end,
+            };
             let next = step_on(
                 arities,
                 room,
                 at,
                 rest,
-                first,
+                forced,
                 number,
                 size,
                 header.next,

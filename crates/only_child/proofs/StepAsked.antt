@@ -8,7 +8,6 @@ use Rattle.terms.specs.Bounds.{edition-one}
 use Rattle.terms.specs.Term.{Term}
 use Rattle.terms.specs.Formed.{Equation}
 use Rattle.search.specs.State.{State, Node, pend}
-use Rattle.search.specs.Classify.{classify}
 use Rattle.search.specs.Children.{children}
 use Rattle.search.specs.Children as search
 use Rattle.search.specs.declared.steps.Tails.{Tails}
@@ -17,10 +16,11 @@ use Rattle.search.specs.declared.steps.Step.the-variants.{Drop, Bind, Postpone,
 use Rattle.binding.specs.At.{first-size}
 use Rattle.rows.specs.declared.parts.Made.{Made}
 use Rattle.rows.specs.declared.parts.Rest.{Rest}
-use Rattle.rows.specs.declared.first.First.{First}
 use Rattle.rows.specs.declared.first.Subject.{Subject}
 use Rattle.rows.specs.First.{subject-in}
+use Rattle.plain_steps.specs.declared.plain.Forced.{Forced}
 use Rattle.plain_steps.specs.OnlyStep.{StepFor, StepAt, Taken}
+use Rattle.plain_steps.specs.Plain.{of-plain, no-split}
 use Rattle.only_child.specs.declared.next.Next.{Next}
 use Rattle.only_child.specs.declared.next.Next.the-variants.{Spent, Due}
 use Rattle.only_child.specs.Next.{Kept, next-made}
@@ -38,13 +38,13 @@ only-one Decompose t u st n = (_, refl)
 only-one (Split k) t u st n = absurd (n k refl)
 only-one Dead t u st n = (_, refl)
 
-module _ {arities l : List ℕ} {at : ℕ} {rest : Rest} {first : First} {number lent next scratch most : ℕ} {st : State} {e : Equation} {es : List Equation}
+module _ {arities l : List ℕ} {at : ℕ} {rest : Rest} {first : Forced} {number lent next scratch most : ℕ} {st : State} {e : Equation} {es : List Equation}
     (S : Single arities l at rest first number lent next scratch most st e es) where
-  child : ((node : Node) × search.take (classify (e .left) (e .right)) (e .left) (e .right) (pend es st) ≡ node ∷ [])
-  child = only-one (classify (e .left) (e .right)) (e .left) (e .right) (pend es st) (S .no-split)
+  child : ((node : Node) × search.take (of-plain (first .step)) (e .left) (e .right) (pend es st) ≡ node ∷ [])
+  child = only-one (of-plain (first .step)) (e .left) (e .right) (pend es st) (no-split (first .step))
 
   one : children st ≡ child .0 ∷ []
-  one = children-by-first (S .ready) (S .cut) ∙ child .1
+  one = children-by-first (S .ready) (S .cut) ∙ ap (λ (j : Step). search.take j (e .left) (e .right) (pend es st)) (sym (S .step-is)) ∙ child .1
 
   pub step-passed : 0 < number → Kept l at number lent scratch most st (Spent 0) l
   step-passed h = unopened scratch (only-passed l at number lent most st one h)
@@ -53,33 +53,32 @@ module _ {arities l : List ℕ} {at : ℕ} {rest : Rest} {first : First} {number
   step-due e f = unopened scratch (only-due l at number lent most st one e f)
 
   pub right-within : first .right ≤ first .end
-  right-within = rw (S .first-is) (omega arith)
+  right-within = omega (arith, S .right-is, S .end-is)
 
   pub first-within : at + 8 + first .end ≤ scratch
-  first-within = rw (S .first-is) (omega (arith, first-size st (S .cut), pending-within (S .ready)))
+  first-within = omega (arith, S .end-is, first-size st (S .cut), pending-within (S .ready))
 
   step-for : {s : Subject} → 0 < most → s ≡ subject-in edition-one (take (at + 8 + first .end - (at + 8)) (drop (at + 8) l)) (at + 8) (first .right) (first .end)
-      → StepFor arities l at (at + (lent + 8)) (scratch + 3 * (lent + 8)) lent (first .right) (first .end) next rest s (first .step) st e es
+      → StepFor arities l at (at + (lent + 8)) (scratch + 3 * (lent + 8)) lent (first .right) (first .end) next rest s (of-plain (first .step)) st e es
   step-for h q = record {
     held = held (S .ready) h;
     cut = S .cut;
-    right-is = ap (λ f. f .right) (S .first-is);
-    end-is = ap (λ f. f .end) (S .first-is);
+    right-is = S .right-is;
+    end-is = S .end-is;
     rest-is = S .rest-is;
-    subject-is = rw (S .first-is) at (rw (lent-part l (at + 8) (first .end)) at q);
-    step-is = ap (λ f. f .step) (S .first-is);
+    subject-is = rw (S .right-is, S .end-is) at (rw (lent-part l (at + 8) (first .end)) at q);
+    step-is = S .step-is;
     next-is = S .next-is;
   }
 
   pub step-asked : {s : Subject} → 0 < most → s ≡ subject-in edition-one (take (at + 8 + first .end - (at + 8)) (drop (at + 8) l)) (at + 8) (first .right) (first .end)
-      → StepAt arities l at (at + (lent + 8)) (scratch + 3 * (lent + 8)) lent (first .right) (first .end) next rest s (first .step)
+      → StepAt arities l at (at + (lent + 8)) (scratch + 3 * (lent + 8)) lent (first .right) (first .end) next rest s (of-plain (first .step))
   step-asked h q = record { state = st; first = e; others = es; here = step-for h q }
 
   pub step-told : {s : Subject} {a : Made} {x : Next} {r : List ℕ} → number ≡ 0 → 0 < most → s ≡ subject-in edition-one (take (at + 8 + first .end - (at + 8)) (drop (at + 8) l)) (at + 8) (first .right) (first .end)
-      → Taken arities l at (at + (lent + 8)) (scratch + 3 * (lent + 8)) lent (first .right) (first .end) next rest s (first .step) a r → x ≡ next-made a → Kept l at number lent scratch most st x r
+      → Taken arities l at (at + (lent + 8)) (scratch + 3 * (lent + 8)) lent (first .right) (first .end) next rest s (of-plain (first .step)) a r → x ≡ next-made a → Kept l at number lent scratch most st x r
   step-told z h q T f =
-      let k : first .step ≡ classify (e .left) (e .right) = ap (λ g. g .step) (S .first-is) in
       record {
-        child = only-made l at number lent most st one z h (T .taken st e es (child .0) (step-for h q) (ap (λ (j : Step). search.take j (e .left) (e .right) (pend es st)) k ∙ child .1) (λ j p. S .no-split j (sym k ∙ p))) f;
+        child = only-made l at number lent most st one z h (T .taken st e es (child .0) (step-for h q) (child .1)) f;
         keeps = kept-beside (S .ready) h (T .beside st e es (step-for h q));
       }

@@ -7,7 +7,7 @@ ghost use Rattle.only_child.specs.NoChoice.{Single, SingleAt};
 use crate::next::Next;
 use crate::next::told_of;
 use plain_steps::child::take_step;
-use rows::first::First;
+use plain_steps::plain::Forced;
 use rows::first::subject_of;
 use rows::header::HEADER;
 use rows::parts::Rest;
@@ -19,7 +19,7 @@ pub fn step_on(
     room: &mut [u16],
     at: usize,
     rest: Rest,
-    first: First,
+    first: Forced,
     number: usize,
     size: usize,
     next: usize,

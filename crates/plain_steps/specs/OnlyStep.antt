@@ -20,7 +20,7 @@ use Rattle.search.specs.Children as children
 use Rattle.search.specs.StepView.{Sided, as-written, turned-round, Stepped, stepped, binds, postpones, decomposes, take-bind, take-postpone}
 use Rattle.search.specs.declared.steps.Tails.{Tails}
 use Rattle.search.specs.declared.steps.Step.{Step}
-use Rattle.search.specs.declared.steps.Step.the-variants.{Drop, Bind, Postpone, Decompose, Split, Dead}
+use Rattle.search.specs.declared.steps.Step.the-variants.{Drop, Bind, Postpone, Decompose, Dead}
 use Rattle.rows.specs.declared.parts.Rest.{Rest}
 use Rattle.rows.specs.declared.parts.Made.{Made}
 use Rattle.rows.specs.declared.parts.Made.the-variants as made
@@ -57,7 +57,7 @@ pub record StepAt (arities l : List ℕ) (from to scratch lent right end next : 
 -- what the function that takes the step says, of each such state and its only child
 pub record Taken (arities l : List ℕ) (from to scratch lent right end next : ℕ) (rest : Rest) (s : Subject) (step : Step) (a : Made) (r : List ℕ) : Type 0 where
   pub taken : (st : State) (e : Equation) (es : List Equation) (node : Node) → StepFor arities l from to scratch lent right end next rest s step st e es
-      → children.take step (e .left) (e .right) (pend es st) ≡ node ∷ [] → ((k : Tails) → step ≡ Split k → ⊥) → Makes edition-one l to lent node a r
+      → children.take step (e .left) (e .right) (pend es st) ≡ node ∷ [] → Makes edition-one l to lent node a r
   pub beside : (st : State) (e : Equation) (es : List Equation) → StepFor arities l from to scratch lent right end next rest s step st e es → Beside l r to lent scratch
 
 only : {n m : Node} → _≡_ {A = List Node} (n ∷ []) (m ∷ []) → n ≡ m

@@ -1,7 +1,9 @@
 // The only child of a state whose first equation leaves no choice.
 ghost use Rattle.plain_steps.specs.OnlyStep.{StepAt, Taken};
+ghost use Rattle.plain_steps.specs.Plain.{of-plain};
 use crate::first_equation::decompose;
 use crate::first_equation::postpone;
+use crate::plain::Plain;
 use binding::bind::finish;
 use binding::keep::keep;
 use rows::first::Subject;
@@ -10,10 +12,9 @@ use rows::parts::Made;
 use rows::parts::Rest;
 use rows::parts::of_sized;
 use rows::walk::terms_after;
-use search::steps::Step;
 
 // Takes the step that the first equation of the row at `from` calls for; the equation's words end at the place `end` of the row's body, and its right
-// side begins at `right`. A split has its own way, and is not taken here.
+// side begins at `right`.
 pub fn take_step(
     arities: &[u8],
     room: &mut [u16],
@@ -26,20 +27,20 @@ pub fn take_step(
     next: usize,
     rest: Rest,
     subject: Subject,
-    step: Step,
+    step: Plain,
 ) -> Made
-    requires { ⌜ StepAt (now arities) (now room) from to scratch size right end next rest subject step ⌝ }
-    ensures { λ r. ⌜ Taken (now (arities .entry)) (now (room .entry)) from to scratch size right end next rest subject step r (now (room .exit)) ⌝ }
+    requires { ⌜ StepAt (now arities) (now room) from to scratch size right end next rest subject (of-plain step) ⌝ }
+    ensures { λ r. ⌜ Taken (now (arities .entry)) (now (room .entry)) from to scratch size right end next rest subject (of-plain step) r (now (room .exit)) ⌝ }
 {
     match step {
-        Step::Drop => of_sized(keep(room, rest, from, 0, to, 0, size, next)),
-        Step::Bind(_) => {
+        Plain::Drop => of_sized(keep(room, rest, from, 0, to, 0, size, next)),
+        Plain::Bind(_) => {
             let by = subject.by;
             let m = subject.m;
             of_sized(finish(arities, room, rest, subject.x, by, m, to, 0, size, next))
         }
-        Step::Postpone(_) => of_sized(postpone(room, rest, subject, scratch, to, size, next)),
-        Step::Decompose => {
+        Plain::Postpone(_) => of_sized(postpone(room, rest, subject, scratch, to, size, next)),
+        Plain::Decompose => {
             let body = from + HEADER;
             let k = terms_after(arities, room[body]);
             let left = body + 1;
@@ -58,7 +59,6 @@ pub fn take_step(
                 next,
             ))
         }
-        Step::Split(_) => Made::Dead,
-        Step::Dead => Made::Dead,
+        Plain::Dead => Made::Dead,
     }
 }

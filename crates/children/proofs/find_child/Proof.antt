@@ -1,21 +1,12 @@
--- `children::find_child`: the laws of `Choosing`. The arm for the other steps knows the variant's number only.
-use mathlib.Core.Path.{_≡_}
-use mathlib.Core.List.{[], _∷_}
+-- `children::find_child`: the laws of `Choosing`.
+use mathlib.Core.Path.{sym, _∙_}
 use native.Mathlib.Omega.{arith}
-use denote.Enum.Declared.{tagOf}
-use types.Run.{OneOf, miss}
-use Rattle.search.proofs.steps.Step as step
-use Rattle.search.specs.declared.steps.Tails.{Tails}
-use Rattle.search.specs.declared.steps.Step.{Step}
-use Rattle.search.specs.declared.steps.Step.the-variants.{Split}
+use Rattle.plain_steps.specs.Plain.{split-step, plain-step}
 use Rattle.children.proofs.Choosing.{nothing-pending, last-within, lent-small, rest-asked, splitting, single}
 use Rattle.pick_loop.proofs.ToldBefore.{looks-kept, looks-opened}
 use borrow.Author.Needs.{needs}
 use Rattle.children.proofs.find_child.Statement.{statement}
 use Rattle.children.proofs.find_child.Tie as tie
-
-no-split : (s : Step) → OneOf (0 ∷ 1 ∷ 2 ∷ 3 ∷ 5 ∷ []) (tagOf step.the-type s) → (k : Tails) → s ≡ Split k → ⊥
-no-split s o k p = miss (0 ∷ 1 ∷ 2 ∷ 3 ∷ 5 ∷ []) 4 tt (rw p at o)
 
 add-after : tie.Need-add-after
 add-after c = search needs
@@ -68,26 +59,32 @@ first-of-requires c κs = lent-small (c .before .before .before .before .before 
 rest-of-requires : tie.Need-rest-of-requires
 rest-of-requires c κs = rest-asked (c .before .before .before .before .before .before .before .before .before .before .before .pre .1) (c .before .before .before .before .before .before .read-header .ensures) (c .before .before .before .before .if1 .left) (c .first-of .ensures)
 
+way-of-requires : tie.Need-way-of-requires
+way-of-requires c κs = search needs
+
+enum-known-tails : tie.Need-enum-known-tails
+enum-known-tails c = search needs
+
 enum-known-step : tie.Need-enum-known-step
 enum-known-step c = search needs
 
 pick-requires : tie.Need-pick-requires
-pick-requires c κs = record { state = _; first = _; others = _; here = splitting (c .before .before .before .before .before .before .before .before .before .before .before .before .before .before .before .before .pre .1) (c .before .before .before .before .before .before .before .before .before .before .before .read-header .ensures) (c .before .before .before .before .before .before .before .before .before .if1 .left) (c .before .before .before .before .before .first-of .ensures) (c .before .before .before .before .rest-of .ensures) (c .before .before .step .given .1) }
+pick-requires c κs = record { state = _; first = _; others = _; here = splitting (c .before .before .before .before .before .before .before .before .before .before .before .before .before .before .before .before .before .pre .1) (c .before .before .before .before .before .before .before .before .before .before .before .before .read-header .ensures) (c .before .before .before .before .before .before .before .before .before .before .if1 .left) (c .before .before .before .before .before .before .first-of .ensures) (c .before .before .before .before .before .rest-of .ensures) (split-step _ (sym (c .before .before .before .before .way-of .ensures) ∙ c .before .before .tails .given .1)) }
 
 step-on-requires : tie.Need-step-on-requires
-step-on-requires c κs = record { state = _; equation = _; others = _; here = single (c .before .before .before .before .before .before .before .before .before .before .before .before .before .before .pre .1) (c .before .before .before .before .before .before .before .before .before .read-header .ensures) (c .before .before .before .before .before .before .before .if1 .left) (c .before .before .before .first-of .ensures) (c .before .before .rest-of .ensures) (no-split _ (c .before .match .keys2)) }
+step-on-requires c κs = record { state = _; equation = _; others = _; here = single (c .before .before .before .before .before .before .before .before .before .before .before .before .before .before .before .before .before .pre .1) (c .before .before .before .before .before .before .before .before .before .before .before .before .read-header .ensures) (c .before .before .before .before .before .before .before .before .before .before .if1 .left) (c .before .before .before .before .before .before .first-of .ensures) (c .before .before .before .before .before .rest-of .ensures) (plain-step _ (sym (c .before .before .before .before .way-of .ensures) ∙ c .before .before .step .given .1)) }
 
 same-length-2 : tie.Need-same-length-2
 same-length-2 c = search needs
 
 returns-2 : tie.Need-returns-2
-returns-2 c = λ st R. looks-opened (c .before .before .pick .ensures st _ _ (splitting R (c .before .before .before .before .before .before .before .before .before .before .before .before .before .before .read-header .ensures) (c .before .before .before .before .before .before .before .before .before .before .before .before .if1 .left) (c .before .before .before .before .before .before .before .before .first-of .ensures) (c .before .before .before .before .before .before .before .rest-of .ensures) (c .before .before .before .before .before .step .given .1)))
+returns-2 c = λ st R. looks-opened (c .before .before .pick .ensures st _ _ (splitting R (c .before .before .before .before .before .before .before .before .before .before .before .before .before .before .before .read-header .ensures) (c .before .before .before .before .before .before .before .before .before .before .before .before .before .if1 .left) (c .before .before .before .before .before .before .before .before .before .first-of .ensures) (c .before .before .before .before .before .before .before .before .rest-of .ensures) (split-step _ (sym (c .before .before .before .before .before .before .before .way-of .ensures) ∙ c .before .before .before .before .before .tails .given .1))))
 
 same-length-3 : tie.Need-same-length-3
 same-length-3 c = search needs
 
 returns-3 : tie.Need-returns-3
-returns-3 c = λ st R. looks-kept (c .before .before .step-on .ensures st _ _ (single R (c .before .before .before .before .before .before .before .before .before .before .before .before .read-header .ensures) (c .before .before .before .before .before .before .before .before .before .before .if1 .left) (c .before .before .before .before .before .before .first-of .ensures) (c .before .before .before .before .before .rest-of .ensures) (no-split _ (c .before .before .before .before .match .keys2))))
+returns-3 c = λ st R. looks-kept (c .before .before .step-on .ensures st _ _ (single R (c .before .before .before .before .before .before .before .before .before .before .before .before .before .before .before .read-header .ensures) (c .before .before .before .before .before .before .before .before .before .before .before .before .before .if1 .left) (c .before .before .before .before .before .before .before .before .before .first-of .ensures) (c .before .before .before .before .before .before .before .before .rest-of .ensures) (plain-step _ (sym (c .before .before .before .before .before .before .before .way-of .ensures) ∙ c .before .before .before .before .before .step .given .1))))
 
 pub find-child-spec : {M : Type 1} → statement M
 find-child-spec =
@@ -110,8 +107,10 @@ find-child-spec =
     part-first-of-end
     first-of-requires
     rest-of-requires
-    enum-known-step
+    way-of-requires
+    enum-known-tails
     pick-requires
+    enum-known-step
     step-on-requires
     same-length-2
     returns-2

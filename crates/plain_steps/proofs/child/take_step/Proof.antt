@@ -4,6 +4,8 @@ use Rattle.plain_steps.specs.Singles.{postpone-beside}
 use Rattle.plain_steps.specs.Decomposed.{decompose-beside}
 use native.Mathlib.Omega.{arith}
 use Prim.Native.Nat.{_-_}
+use Rattle.plain_steps.specs.Plain.{of-plain}
+use mathlib.Core.Path.{ap}
 use borrow.Author.Needs.{needs}
 use Rattle.plain_steps.proofs.child.take_step.Statement.{statement}
 use Rattle.plain_steps.proofs.child.take_step.Tie as tie
@@ -21,7 +23,8 @@ enum-told-2 : tie.Need-enum-told-2
 enum-told-2 c = search needs
 
 finish-requires : tie.Need-finish-requires
-finish-requires c κs = bind-arm-parts (c .before .before .before .before .before .pre .here) (c .before .enum-told2 .given .1)
+unfolding of-plain
+finish-requires c κs = bind-arm-parts (c .before .before .before .before .before .pre .here) (ap of-plain (c .before .enum-told2 .given .1))
 
 of-sized-requires-2 : tie.Need-of-sized-requires-2
 of-sized-requires-2 c κs = search needs
@@ -30,7 +33,8 @@ enum-told-3 : tie.Need-enum-told-3
 enum-told-3 c = search needs
 
 postpone-requires : tie.Need-postpone-requires
-postpone-requires c κs = postpone-arm-parts (c .before .before .before .before .before .pre .here) (c .before .enum-told3 .given .1)
+unfolding of-plain
+postpone-requires c κs = postpone-arm-parts (c .before .before .before .before .before .pre .here) (ap of-plain (c .before .enum-told3 .given .1))
 
 of-sized-requires-3 : tie.Need-of-sized-requires-3
 of-sized-requires-3 c κs = search needs
@@ -54,17 +58,19 @@ add-left : tie.Need-add-left
 add-left c = search needs
 
 add-other : tie.Need-add-other
+unfolding of-plain
 add-other c =
     let S = c .before .before .before .before .before .before .pre .here in
     let p = sides-positive S in
-    let D = decompose-arm-parts S (c .before .before .enum-told4 .given .1) in
+    let D = decompose-arm-parts S (ap of-plain (c .before .before .enum-told4 .given .1)) in
     omega (arith, D .pairs .right-within, D .pairs .small)
 
 add-other-2 : tie.Need-add-other-2
+unfolding of-plain
 add-other-2 c =
     let S = c .before .before .before .before .before .before .pre .here in
     let p = sides-positive S in
-    let D = decompose-arm-parts S (c .before .before .enum-told4 .given .1) in
+    let D = decompose-arm-parts S (ap of-plain (c .before .before .enum-told4 .given .1)) in
     omega (arith, D .pairs .right-within, D .pairs .small)
 
 sub-decompose : tie.Need-sub-decompose
@@ -81,7 +87,8 @@ sub-decompose-3 c =
     omega arith
 
 decompose-requires : tie.Need-decompose-requires
-decompose-requires c κs = decompose-arm-parts (c .before .before .before .before .before .before .before .pre .here) (c .before .before .before .enum-told4 .given .1)
+unfolding of-plain
+decompose-requires c κs = decompose-arm-parts (c .before .before .before .before .before .before .before .pre .here) (ap of-plain (c .before .before .before .enum-told4 .given .1))
 
 of-sized-requires-4 : tie.Need-of-sized-requires-4
 of-sized-requires-4 c κs = search needs
@@ -89,38 +96,37 @@ of-sized-requires-4 c κs = search needs
 enum-told-5 : tie.Need-enum-told-5
 enum-told-5 c = search needs
 
-enum-told-6 : tie.Need-enum-told-6
-enum-told-6 c = search needs
-
 same-length : tie.Need-same-length
 same-length c = search needs
 
 returns : tie.Need-returns
-returns c = rw (c .of-sized .ensures) (record { taken = λ st e es node S o n. drop-arm S (c .before .before .before .before .before .enum-told .given .1) (c .before .before .before .keep .ensures) o; beside = λ st e es S. finished-beside (c .before .before .before .keep .ensures) })
+unfolding of-plain
+returns c = rw (c .of-sized .ensures) (record { taken = λ st e es node S o. drop-arm S (ap of-plain (c .before .before .before .before .before .enum-told .given .1)) (c .before .before .before .keep .ensures) o; beside = λ st e es S. finished-beside (c .before .before .before .keep .ensures) })
 
 same-length-2 : tie.Need-same-length-2
 same-length-2 c = search needs
 
 returns-2 : tie.Need-returns-2
-returns-2 c = rw (c .of-sized2 .ensures) (record { taken = λ st e es node S o n. bind-arm S (c .before .before .before .before .before .enum-told2 .given .1) (c .before .before .before .finish .ensures) o; beside = λ st e es S. finished-beside (c .before .before .before .finish .ensures) })
+unfolding of-plain
+returns-2 c = rw (c .of-sized2 .ensures) (record { taken = λ st e es node S o. bind-arm S (ap of-plain (c .before .before .before .before .before .enum-told2 .given .1)) (c .before .before .before .finish .ensures) o; beside = λ st e es S. finished-beside (c .before .before .before .finish .ensures) })
 
 same-length-3 : tie.Need-same-length-3
 same-length-3 c = search needs
 
 returns-3 : tie.Need-returns-3
-returns-3 c = rw (c .of-sized3 .ensures) (record { taken = λ st e es node S o n. postpone-arm S (c .before .before .before .before .before .enum-told3 .given .1) (c .before .before .before .postpone .ensures) o; beside = λ st e es S. postpone-beside _ (omega (arith, S .held .rows .next-row)) (c .before .before .before .postpone .ensures) })
+unfolding of-plain
+returns-3 c = rw (c .of-sized3 .ensures) (record { taken = λ st e es node S o. postpone-arm S (ap of-plain (c .before .before .before .before .before .enum-told3 .given .1)) (c .before .before .before .postpone .ensures) o; beside = λ st e es S. postpone-beside _ (omega (arith, S .held .rows .next-row)) (c .before .before .before .postpone .ensures) })
 
 same-length-4 : tie.Need-same-length-4
 same-length-4 c = search needs
 
 returns-4 : tie.Need-returns-4
-returns-4 c = rw (c .of-sized4 .ensures) (record { taken = λ st e es node S o n. decompose-arm S (c .before .before .before .before .before .before .before .enum-told4 .given .1) (c .before .before .before .before .before .terms-after .ensures .0) (c .before .before .before .decompose .ensures) o; beside = λ st e es S. decompose-beside _ _ (decompose-arm-parts S (c .before .before .before .before .before .before .before .enum-told4 .given .1)) (c .before .before .before .decompose .ensures) })
+unfolding of-plain
+returns-4 c = rw (c .of-sized4 .ensures) (record { taken = λ st e es node S o. decompose-arm S (ap of-plain (c .before .before .before .before .before .before .before .enum-told4 .given .1)) (c .before .before .before .before .before .terms-after .ensures .0) (c .before .before .before .decompose .ensures) o; beside = λ st e es S. decompose-beside _ _ (decompose-arm-parts S (ap of-plain (c .before .before .before .before .before .before .before .enum-told4 .given .1))) (c .before .before .before .decompose .ensures) })
 
 returns-5 : tie.Need-returns-5
-returns-5 c = record { taken = λ st e es node S o n. absurd (n _ (c .enum-told5 .given .1)); beside = λ st e es S. beside-same }
-
-returns-6 : tie.Need-returns-6
-returns-6 c = record { taken = λ st e es node S o n. dead-arm S (c .enum-told6 .given .1) o; beside = λ st e es S. beside-same }
+unfolding of-plain
+returns-5 c = record { taken = λ st e es node S o. dead-arm S (ap of-plain (c .enum-told5 .given .1)) o; beside = λ st e es S. beside-same }
 
 pub take-step-spec : {M : Type 1} → statement M
 take-step-spec =
@@ -149,7 +155,6 @@ take-step-spec =
     decompose-requires
     of-sized-requires-4
     enum-told-5
-    enum-told-6
     same-length
     returns
     same-length-2
@@ -158,5 +163,4 @@ take-step-spec =
     returns-3
     same-length-4
     returns-4
-    returns-5
-    returns-6)
+    returns-5)
