@@ -7,7 +7,7 @@ use native.Mathlib.Omega.{arith}
 use lib.ListN.{length, length-append}
 use Rattle.room.specs.Room.{seg, length-seg, seg-append, seg-zero}
 use Rattle.room.specs.Replaced.{replaced, replaced-append}
-use Rattle.terms.specs.Bounds.{edition-one, edition-one-proper}
+use Rattle.terms.specs.Bounds.{edition-one, edition-one-unknowns-first}
 use Rattle.terms.specs.Kind.{Worded}
 use Rattle.terms.specs.Lists.{All}
 use Rattle.terms.specs.Term.{Term, words}
@@ -67,14 +67,14 @@ module _ {arities : List ℕ} {k : ℕ} (worded : Worded edition-one arities k) 
         ∙ rw (
           ← replaced-append (1000 + x) (words edition-one t) (pending-words edition-one ds) (pending-words edition-one (st .pending)),
           ← pending-append edition-one ds (st .pending),
-          replaced-pending edition-one-proper h t (ds ++ st .pending),
-          replaced-entries edition-one-proper h t (st .pile),
+          replaced-pending edition-one-unknowns-first h t (ds ++ st .pending),
+          replaced-entries edition-one-unknowns-first h t (st .pile),
         )
         (sym (pending-append edition-one (map (replace-in x t) (ds ++ st .pending)) (map (released x t) (entries x (st .pile))))))
 
     pile-is : pile-piece edition-one arities r₀ rest (1000 + x) by m ≡ pile-words edition-one (child .pile)
     unfolding bound-state ahead edition-one
-    pile-is = pile-piece-is ∙ replaced-others edition-one-proper h t (st .pile)
+    pile-is = pile-piece-is ∙ replaced-others edition-one-unknowns-first h t (st .pile)
 
     bindings-is : last-piece r₀ rest (1000 + x) by m ≡ binding-words edition-one (child .bindings)
     unfolding bound-state ahead binding-words
@@ -133,7 +133,7 @@ module _ {arities : List ℕ} {k : ℕ} (worded : Worded edition-one arities k) 
 
     heir-pile : pile-piece edition-one arities r₀ rest (1000 + x) by m ≡ pile-words edition-one (heir .pile)
     unfolding edition-one
-    heir-pile = pile-piece-is ∙ replaced-others edition-one-proper h t (st .pile)
+    heir-pile = pile-piece-is ∙ replaced-others edition-one-unknowns-first h t (st .pile)
 
     heir-bindings : last-piece r₀ rest (1000 + x) by m ≡ binding-words edition-one (heir .bindings)
     unfolding binding-words

@@ -137,7 +137,7 @@ module _ {b : Bounds} {arities : List ℕ} {n : ℕ} (worded : Worded b arities 
   follow-stands (stands-unknown {i = i} h) =
       rw (kind-unknown (worded .proper) i (omega arith), takes-unknown (worded .proper) arities i (omega arith), lt-ltb i n h)
   follow-stands (stands-functor {k = k} h) =
-      rw (kind-functor (worded .proper) k (omega arith), takes-functor (worded .proper) arities k, lt-ltb k (length arities) h)
+      rw (kind-functor (worded .proper) k (omega arith), takes-functor (worded .proper) arities k (omega arith), lt-ltb k (length arities) h)
 
   checked-word : (a k w : ℕ) (ws : List ℕ) (d p : ℕ) → Stands b arities n w
       → checked b arities n (w ∷ ws) p a k (suc d) ≡ checked b arities n ws (p + 1) a k (d + takes b arities w)

@@ -94,7 +94,7 @@ module _ {b : Bounds} (proper : Proper b) (arities : List ℕ) (n w m : ℕ) (ts
       let s = stands-if (ltb k (length arities)) (follow.Terms (getD arities k 0)) WordsUndeclared f in
       let z : getD arities k 0 ≡ m = cc in
       record {
-        follows = rw e (takes-functor proper arities k ∙ z);
+        follows = rw e (takes-functor proper arities k j ∙ z);
         one-more = rw z (omega (arith, length-drop m ts));
         formed = both (formed-functor (ltb-true k (length arities) (s .0)) (count-taken (getD arities k 0) ts) (formed-taken (getD arities k 0) fs)) (formed-drop (getD arities k 0) fs);
         worded = rw (e, z) (ap (λ ws. (b .first-functor + k) ∷ ws) (words-taken b m ts h));

@@ -62,11 +62,11 @@ places (functor k ts) p = p ∷ []
 module _ {b : Bounds} {arities : List ℕ} {n : ℕ} (worded : Worded b arities n) where
   pub noted-words : {t : Term} → Formed arities n t → (ws : List ℕ) (place : ℕ) → noted b arities (words b t ++ ws) 0 place ≡ places t place
   unfolding noted words places
-  noted-words (formed-unknown {i = i} h) ws place = noted-kernel b arities (b .first-unknown + i) ws place (λ e. omega (arith, worded .proper .after-marks))
+  noted-words (formed-unknown {i = i} h) ws place = noted-kernel b arities (b .first-unknown + i) ws place (λ e. omega (arith, worded .proper .unknowns-after-marks))
   noted-words formed-empty ws place = refl
   noted-words (formed-with {m = m} {r = r} f g) ws place =
       rw (append-assoc (words b m) (words b r) ws)
       (ap (λ (l : List ℕ). place ∷ l)
       (past worded {P = λ w. Unit {0}} (noted b arities) (λ w vs d p u. refl) f (All-units (words b m)) (words b r ++ ws) 0 (place + 1)
       ∙ noted-words g ws (place + 1 + size m)))
-  noted-words (formed-functor {k = k} {ts = ts} h e f) ws place = noted-kernel b arities (b .first-functor + k) (words* b ts ++ ws) place (λ e. omega (arith, worded .proper .after-marks, worded .proper .before-functors))
+  noted-words (formed-functor {k = k} {ts = ts} h e f) ws place = noted-kernel b arities (b .first-functor + k) (words* b ts ++ ws) place (λ e. omega (arith, worded .proper .functors-after-marks))

@@ -10,6 +10,7 @@ use borrow.Author.Tests.{ne-eqb, lt-ltb, le-ltb, ltb-true, ltb-false}
 use Rattle.terms.specs.Lists.{cases}
 use Rattle.terms.specs.Lists as lists
 use Rattle.terms.specs.Bounds.{Bounds, Proper}
+use Rattle.terms.specs.Kind.{within-first, within-before, within-apart}
 use Rattle.text.specs.Text.{choose}
 use Rattle.pen.specs.OpenBrackets.{Bracket}
 use Rattle.pen.specs.Walk.{Writes, writes, deep, after, opens, symbol, Walk, ended, too-deep, prepend, onward, next}
@@ -53,7 +54,11 @@ prepend-nothing (too-deep p) = refl
 module _ {b : Bounds} (arities : List ℕ) (proper : Proper b) where
   pub symbol-empty : symbol b arities 0 ≡ Empty
   unfolding symbol
-  symbol-empty = rw (lt-ltb 0 (b .first-unknown) (omega (arith, proper .after-marks)))
+  symbol-empty =
+      rw (
+        within-before (b .first-unknown) (b .unknown-words) 0 (omega (arith, proper .unknowns-after-marks)),
+        lt-ltb 0 (b .first-functor) (omega (arith, proper .functors-after-marks)),
+      )
 
   pub symbol-adding : symbol b arities 1 ≡ Adding
   unfolding symbol
@@ -64,19 +69,18 @@ module _ {b : Bounds} (arities : List ℕ) (proper : Proper b) where
   symbol-unknown i h =
       let z : b .first-unknown + i - b .first-unknown ≡ i = omega arith in
       rw (
-        ne-eqb (b .first-unknown + i) 1 (λ e. omega (arith, proper .after-marks)),
-        le-ltb (b .first-unknown + i) (b .first-unknown) (omega arith),
-        lt-ltb (b .first-unknown + i) (b .first-functor) (omega (arith, proper .before-functors)),
+        ne-eqb (b .first-unknown + i) 1 (λ e. omega (arith, proper .unknowns-after-marks)),
+        within-first (b .first-unknown) (b .unknown-words) i h,
         z,
       )
 
-  pub symbol-functor : (k : ℕ) → symbol b arities (b .first-functor + k) ≡ Functor k (getD arities k 0)
+  pub symbol-functor : (k : ℕ) → k < b .functor-words → symbol b arities (b .first-functor + k) ≡ Functor k (getD arities k 0)
   unfolding symbol
-  symbol-functor k =
+  symbol-functor k h =
       let z : b .first-functor + k - b .first-functor ≡ k = omega arith in
       rw (
-        ne-eqb (b .first-functor + k) 1 (λ e. omega (arith, proper .after-marks, proper .before-functors)),
-        le-ltb (b .first-functor + k) (b .first-unknown) (omega (arith, proper .before-functors)),
+        ne-eqb (b .first-functor + k) 1 (λ e. omega (arith, proper .functors-after-marks)),
+        within-apart (proper .apart) h,
         le-ltb (b .first-functor + k) (b .first-functor) (omega arith),
         z,
       )

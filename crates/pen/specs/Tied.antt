@@ -157,7 +157,7 @@ module _ {b : Bounds} {arities : List ℕ} {n : ℕ} (worded : Worded b arities 
         (over f (words b r ++ ws) (p + 1) (member ∷ bs) due-member) refl (finish-member (p + 1 + size m) (words b r ++ ws) bs))
         (over-rest g ws (p + 1 + size m) bs) (omega (arith, length-depths (suc (length bs)) m)) (moved ws bs (omega arith))))
     over (formed-functor {k = k} {ts = ts} h e f) ws p bs d =
-        from (begun (b .first-functor + k) (words* b ts ++ ws) p (Functor k (count ts)) (symbol-functor arities (worded .proper) k ∙ ap (Functor k) (sym e)) d) (over-arguments k f ws p bs)
+        from (begun (b .first-functor + k) (words* b ts ++ ws) p (Functor k (count ts)) (symbol-functor arities (worded .proper) k (omega (arith, worded .functors)) ∙ ap (Functor k) (sym e)) d) (over-arguments k f ws p bs)
 
     pub over-rest : {r : Term} → Formed arities n r → (ws : List ℕ) (p : ℕ) (bs : List Bracket)
         → Part limit (walk b arities p (words b r ++ ws) (rest ∷ bs)) p (rest-depths (suc (length bs)) r) (after-member r) (finish b arities (p + size r) ws bs)
@@ -173,7 +173,7 @@ module _ {b : Bounds} {arities : List ℕ} {n : ℕ} (worded : Worded b arities 
         (over f (words b r ++ ws) (p + 1) (member ∷ bs) due-member) refl (finish-member (p + 1 + size m) (words b r ++ ws) bs))
         (over-rest g ws (p + 1 + size m) bs) (omega (arith, length-depths (suc (length bs)) m)) (moved ws bs (omega arith))))
     over-rest (formed-functor {k = k} {ts = ts} h e f) ws p bs =
-        from (continued (b .first-functor + k) (words* b ts ++ ws) p bs (Functor k (count ts)) (symbol-functor arities (worded .proper) k ∙ ap (Functor k) (sym e)) ∙ next-after (124 ∷ []) _ p _)
+        from (continued (b .first-functor + k) (words* b ts ++ ws) p bs (Functor k (count ts)) (symbol-functor arities (worded .proper) k (omega (arith, worded .functors)) ∙ ap (Functor k) (sym e)) ∙ next-after (124 ∷ []) _ p _)
         (spelt (ap (λ l. 124 ∷ l) (append-assoc (functor-name k) (arguments ts) (125 ∷ [])))
         (tail-over ws bs (over-arguments k f ws p (tail ∷ bs)) (omega (arith, length-argument-depths (suc (length bs)) ts))))
 

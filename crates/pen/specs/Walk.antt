@@ -6,6 +6,7 @@ use mathlib.Core.List.{List, [], _∷_, _++_}
 use lib.Dec.{eqb, ltb}
 use lib.ListN.{length, getD, drop}
 use Rattle.terms.specs.Bounds.{Bounds}
+use Rattle.terms.specs.Kind.{within}
 use Rattle.text.specs.Text.{choose, unknown-name, functor-name}
 use Rattle.pen.specs.OpenBrackets.{Bracket, member, rest, tail, argument, closing, closed, Holds}
 use Rattle.pen.specs.Pen.{Wrote}
@@ -21,8 +22,8 @@ use Rattle.pen.specs.declared.put.Passage.the-variants.{To, TooDeep}
 unfoldable pub symbol : Bounds → List ℕ → ℕ → Symbol
 symbol b arities w =
     cond (eqb w 1) Adding
-    (cond (ltb w (b .first-unknown)) Empty
-    (cond (ltb w (b .first-functor)) (Unknown (w - b .first-unknown))
+    (cond (within (b .first-unknown) (b .unknown-words) w) (Unknown (w - b .first-unknown))
+    (cond (ltb w (b .first-functor)) Empty
     (Functor (w - b .first-functor) (getD arities (w - b .first-functor) 0))))
 
 -- a word writes bytes and leaves brackets open, or would open one too many

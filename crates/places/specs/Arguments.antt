@@ -80,7 +80,7 @@ module _ {h : Held} (placed : Placed h) where
   by-view known c (sees-empty e s) = kernel-empty e (rw s) (rw (e, takes-empty (placed .terms .limits .proper) (h .arities)))
   by-view known c (sees-member e a b s) = absurd (c e)
   by-view known c (sees-unknown {i = i} e l s) = absurd (known .no-unknown i l e)
-  by-view known c (sees-functor {k = k} e l s) = kernel-functor e (rw (s, e, takes-functor (placed .terms .limits .proper) (h .arities) k))
+  by-view known c (sees-functor {k = k} e l s) = kernel-functor e (rw (s, e, takes-functor (placed .terms .limits .proper) (h .arities) k (omega (arith, placed .terms .limits .functors))))
 
   pub kernel-at : {p : ℕ} → Known h p → (getD (h .words) p 0 ≡ 1 → ⊥) → Kernel h p
   kernel-at {p} known c = by-view known c (view (placed .terms) p (known .inside))
@@ -100,7 +100,7 @@ module _ {h : Held} (placed : Placed h) where
       go (sees-unknown {i = i} e l s) = absurd (known .no-unknown i l e)
       go (sees-functor {k = k} e l s) =
           let w = rw s at (standing (placed .terms) p (known .inside) .within) in
-          rw (e, takes-functor (placed .terms .limits .proper) (h .arities) k) (omega arith)
+          rw (e, takes-functor (placed .terms .limits .proper) (h .arities) k (omega (arith, placed .terms .limits .functors))) (omega arith)
 
   pub words-differ : {p q : ℕ} → Kernel h p → Kernel h q → (getD (h .words) p 0 ≡ getD (h .words) q 0 → ⊥) → kernels-equal (valued h p) (valued h q) ≡ false
   unfolding kernels-equal is-empty is-this-functor
@@ -110,7 +110,7 @@ module _ {h : Held} (placed : Placed h) where
   words-differ (kernel-functor {k = k} e s) (kernel-functor {k = j} d t) n = rw (s, t, ne-eqb k j (λ z. n (omega arith)))
 
   positive : 0 < h .bounds .first-functor
-  positive = let m = placed .terms .limits .proper .after-marks in let f = placed .terms .limits .proper .before-functors in omega arith
+  positive = omega (arith, placed .terms .limits .proper .functors-after-marks)
 
   pub words-agree : {p q : ℕ} → Kernel h p → Kernel h q → getD (h .words) p 0 ≡ getD (h .words) q 0
       → kernels-equal (valued h p) (valued h q) ≡ equal* (arguments h (p + 1) (following h p)) (arguments h (q + 1) (following h p))

@@ -1,12 +1,12 @@
 -- The term at a place, values put in, by what stands there. An unknown's place is `resolved` to its value's; a set is `opened` to its first member and
 -- its rest; any other is `closed`, a kernel by itself.
-use Prim.Native.Nat.{ℕ, _+_, _<_, _≤_}
+use Prim.Native.Nat.{ℕ, _+_, _-_, _<_, _≤_}
 use mathlib.Core.Path.{_≡_, refl, ap, ap₂, sym, _∙_}
 use mathlib.Core.List.{List, []}
 use native.Mathlib.Omega.{arith}
 use lib.ListN.{length, getD}
 use Rattle.terms.specs.Formed.{Formed, Formed*, formed-unknown, formed-empty, formed-with, formed-functor, formed-none, formed-more}
-use Rattle.terms.specs.Kind.{kind, kind-unknown, kind-functor}
+use Rattle.terms.specs.Kind.{kind, kind-unknown, kind-functor, apart-words}
 use Rattle.terms.specs.Term.{Term, Terms, unknown, with, functor, more, members, kernel}
 use Rattle.laws.specs.Values.{Values, value, value*}
 use Rattle.places.specs.Places.{tree, end, Held, values, valued, Placed, Known, on-to, resolved, Resolvable, member-of, rest-of}
@@ -46,10 +46,11 @@ pub record Closed (h : Held) (p : ℕ) : Type 0 where
 
 module _ {h : Held} (placed : Placed h) where
   marks : 2 ≤ h .bounds .first-unknown
-  marks = placed .terms .limits .proper .after-marks
+  marks = placed .terms .limits .proper .unknowns-after-marks
 
-  apart : h .bounds .first-unknown + length (h .starts) ≤ h .bounds .first-functor
-  apart = let x = placed .terms .limits .unknowns in let y = placed .terms .limits .proper .before-functors in omega arith
+  -- no declared functor has a word that counts as an unknown's
+  apart : {k : ℕ} → k < length (h .arities) → {i : ℕ} → i < h .bounds .unknown-words → h .bounds .first-functor + k ≡ h .bounds .first-unknown + i → ⊥
+  apart l b = apart-words (placed .terms .limits .proper .apart) b (omega (arith, placed .terms .limits .functors))
 
   -- ---- which places are known
 
@@ -57,8 +58,8 @@ module _ {h : Held} (placed : Placed h) where
     low : getD (h .words) p 0 < h .bounds .first-unknown → Known h p
     low l = record { inside = inside; no-unknown = λ i below e. omega arith }
 
-    high : h .bounds .first-functor ≤ getD (h .words) p 0 → Known h p
-    high l = record { inside = inside; no-unknown = λ i below e. omega (arith, apart) }
+    functor-known : {k : ℕ} → getD (h .words) p 0 ≡ h .bounds .first-functor + k → k < length (h .arities) → Known h p
+    functor-known e l = record { inside = inside; no-unknown = λ i below d. apart l (omega (arith, placed .terms .limits .unknowns)) (sym e ∙ d) }
 
     ground-known : Formed (h .arities) 0 (tree (h .bounds) (h .arities) (h .words) p) → Known h p
     ground-known f = go (view (placed .terms) p inside)
@@ -67,7 +68,7 @@ module _ {h : Held} (placed : Placed h) where
         go (sees-empty e s) = low (omega (arith, marks))
         go (sees-member e a b s) = low (omega (arith, marks))
         go (sees-unknown e l s) = not-ground (rw s at f)
-        go (sees-functor e l s) = high (omega arith)
+        go (sees-functor e l s) = functor-known e l
 
   -- ---- an unknown's place is resolved
 
@@ -91,18 +92,18 @@ module _ {h : Held} (placed : Placed h) where
       go (sees-empty e s) = stays (rw e) (low inside (omega (arith, marks)))
       go (sees-member e a b s) = stays (rw e) (low inside (omega (arith, marks)))
       go (sees-unknown {i = i} e l s) = goes i l s (rw (e, kind-unknown (placed .terms .limits .proper) i (omega (arith, placed .terms .limits .unknowns))))
-      go (sees-functor {k = k} e l s) = stays (rw (e, kind-functor (placed .terms .limits .proper) k (omega (arith, placed .terms .limits .functors)))) (high inside (omega arith))
+      go (sees-functor {k = k} e l s) = stays (rw (e, kind-functor (placed .terms .limits .proper) k (omega (arith, placed .terms .limits .functors)))) (functor-known inside e l)
 
   -- the unknown at a place has a value
   pub resolvable : (p : ℕ) → p < length (h .words) → Resolvable (h .bounds) (h .words) (h .starts) p
   resolvable p inside = record { inside = inside; valued = λ l m. go l m (view (placed .terms) p inside) }
     where
-      go : h .bounds .first-unknown ≤ getD (h .words) p 0 → getD (h .words) p 0 < h .bounds .first-functor
+      go : h .bounds .first-unknown ≤ getD (h .words) p 0 → getD (h .words) p 0 < h .bounds .first-unknown + h .bounds .unknown-words
           → View (h .bounds) (h .arities) (length (h .starts)) (h .words) p → getD (h .words) p 0 < h .bounds .first-unknown + length (h .starts)
       go l m (sees-empty e s) = absurd (omega (arith, marks))
       go l m (sees-member e a b s) = absurd (omega (arith, marks))
       go l m (sees-unknown e b s) = omega arith
-      go l m (sees-functor e b s) = absurd (omega arith)
+      go l m (sees-functor e b s) = absurd (apart b {i = getD (h .words) p 0 - h .bounds .first-unknown} (omega arith) (omega arith))
 
   -- ---- a set is opened
 
@@ -123,7 +124,7 @@ module _ {h : Held} (placed : Placed h) where
             whole = ap (value (values h)) s ∙ ap₂ with (sym (x .same)) (sym (y .same));
           }
       go (sees-unknown e l s) = absurd (omega (arith, marks))
-      go (sees-functor e l s) = absurd (omega (arith, marks, apart))
+      go (sees-functor e l s) = absurd (omega (arith, placed .terms .limits .proper .functors-after-marks))
 
   -- ---- any other known place is closed
 

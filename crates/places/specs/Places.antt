@@ -74,7 +74,7 @@ resolved b ws starts p = on-to starts p (kind b (getD ws p 0))
 
 pub record Resolvable (b : Bounds) (ws starts : List ℕ) (p : ℕ) : Type 0 where
   pub inside : p < length ws
-  pub valued : b .first-unknown ≤ getD ws p 0 → getD ws p 0 < b .first-functor → getD ws p 0 < b .first-unknown + length starts
+  pub valued : b .first-unknown ≤ getD ws p 0 → getD ws p 0 < b .first-unknown + b .unknown-words → getD ws p 0 < b .first-unknown + length starts
 
 -- where a member adding stands: the places of its member and of its rest
 unfoldable pub member-of : Held → ℕ → ℕ

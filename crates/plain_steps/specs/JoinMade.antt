@@ -10,7 +10,7 @@ use lib.ListN.{length, getD, length-append}
 use borrow.Author.Tests.{lt-ltb}
 use Rattle.room.specs.Room.{seg, put, length-put, seg-put-same, getD-seg}
 use Rattle.room.specs.Parts.{earlier, later, seg-put}
-use Rattle.terms.specs.Bounds.{edition-one, edition-one-proper}
+use Rattle.terms.specs.Bounds.{edition-one, edition-one-proper, edition-one-unknowns-first}
 use Rattle.terms.specs.Lists.{All, both, any, cases}
 use Rattle.terms.specs.Term.{Term, unknown, words, size, occurs, over}
 use Rattle.terms.specs.Answers.{Named, pile-words}
@@ -96,7 +96,7 @@ module _ {arities r₀ : List ℕ} {from to scratch lent : ℕ} {st : State} (H 
 
   deadness : holds (joining-word r₀ rest) (joining-words arities r₀ rest) ≡ any (occurs x) ms
   unfolding edition-one
-  deadness = rw (word-is, words-are) (holds-members edition-one-proper (omega (arith, small-name, H .sound .few)) ms)
+  deadness = rw (word-is, words-are) (holds-members edition-one-unknowns-first (omega (arith, small-name, H .sound .few)) ms)
 
   occurs-is : occurs x t ≡ any (occurs x) ms
   occurs-is = occurs-over x (st .next) (λ e. omega (arith, small-name)) ms

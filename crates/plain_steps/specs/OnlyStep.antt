@@ -10,7 +10,7 @@ use Rattle.room.specs.Room.{seg, getD-seg}
 use Rattle.terms.specs.Bounds.{edition-one, edition-one-proper}
 use Rattle.terms.specs.Kind.{takes, takes-functor}
 use Rattle.terms.specs.Term.{Term, Terms, functor, words, size, occurs, list}
-use Rattle.terms.specs.Formed.{Equation, Formed, formed-unknown}
+use Rattle.terms.specs.Formed.{Equation, Formed, formed-unknown, formed-functor}
 use Rattle.terms.specs.Shape.{arguments}
 use Rattle.terms.specs.Flat.{size-positive}
 use Rattle.search.specs.State.{State, Node, live, dead, pend, piled}
@@ -170,7 +170,10 @@ module _ {arities l : List ℕ} {from to scratch lent right end next : ℕ} {res
       let w : getD l (from + 8) 0 ≡ 2000 + v .k =
       ap (λ (j : ℕ). getD l j 0) (sym p) ∙ sym (getD-seg l (from + 8) (size (e .left)) 0 (size-positive (e .left)))
       ∙ ap (λ (ws : List ℕ). getD ws 0 0) (left-stands (H .holds) (S .cut) ∙ ap (words edition-one) (v .left)) in
-      f ∙ rw w (takes-functor edition-one-proper arities (v .k))
+      f ∙ rw w (takes-functor edition-one-proper arities (v .k) (omega (arith, declared (rw (v .left) at (first-formed (H .sound) (S .cut) .0)), H .sound .functors)))
+    where
+      declared : {k : ℕ} {ts : Terms} → Formed arities (st .next) (functor k ts) → k < length arities
+      declared (formed-functor h c g) = h
 
   pub decompose-arm : {c : ℕ} {a : Made} {r : List ℕ} {node : Node} → step ≡ Decompose → c ≡ takes edition-one arities (getD l (from + 8) 0)
       → Finished (decomposed edition-one arities l c (from + 8 + 1) (right - 1) (from + 8 + right + 1) (end - right - 1) to) to

@@ -5,7 +5,7 @@ use mathlib.Core.List.{List}
 use native.Mathlib.Omega.{arith}
 use native.Mathlib.Numerals.{sub-one}
 use lib.ListN.{length, getD, set}
-use Rattle.terms.specs.Term.{with, functor}
+use Rattle.terms.specs.Term.{with}
 use Rattle.terms.specs.Reading.{taken}
 use Rattle.laws.specs.Rank.{rank, rank*}
 use Rattle.laws.specs.Values.{value*}
@@ -19,13 +19,10 @@ use Rattle.ranks.specs.Ranked.{not-told, ranked-set}
 
 module _ {h : Held} (placed : Placed h) {p : ℕ} (inside : p < length (h .words)) where
   pub low-known : getD (h .words) p 0 < 2 → Known h p
-  low-known l = let m = placed .terms .limits .proper .after-marks in record { inside = inside; no-unknown = λ i b e. omega arith }
+  low-known l = let m = placed .terms .limits .proper .unknowns-after-marks in record { inside = inside; no-unknown = λ i b e. omega arith }
 
-  pub high-known : h .bounds .first-functor ≤ getD (h .words) p 0 → Known h p
-  high-known l =
-      let x = placed .terms .limits .unknowns in
-      let y = placed .terms .limits .proper .before-functors in
-      record { inside = inside; no-unknown = λ i b e. omega arith }
+  pub high-known : h .bounds .first-unknown + h .bounds .unknown-words ≤ getD (h .words) p 0 → Known h p
+  high-known l = let x = placed .terms .limits .unknowns in record { inside = inside; no-unknown = λ i b e. omega arith }
 
   pub empty-told : getD (h .words) p 0 ≡ 0 → RankTold h p 0
   unfolding rank
@@ -33,7 +30,7 @@ module _ {h : Held} (placed : Placed h) {p : ℕ} (inside : p < length (h .words
     where
       go : Kernel h p → rank (valued h p) ≡ 0
       go (kernel-empty d s f) = rw s
-      go (kernel-functor d s) = let m = placed .terms .limits .proper .after-marks in let f = placed .terms .limits .proper .before-functors in absurd (omega arith)
+      go (kernel-functor d s) = absurd (omega (arith, placed .terms .limits .proper .functors-after-marks))
 
 -- ---- a set
 
@@ -73,33 +70,19 @@ pub record Reckoning (h : Held) (ranks : List ℕ) (p r x m : ℕ) : Type 0 wher
   pub so-far : r < 65535 → max r (rank* (arguments h x m)) ≡ rank* (arguments h (p + 1) (following h p))
 
 module _ {h : Held} {ranks : List ℕ} {p : ℕ} (o : OfFunctor h ranks p) where
-  known : Known h p
-  known = high-known (o .ranked .placed) (o .inside) (o .functor)
-
   no-set : getD (h .words) p 0 ≡ 1 → ⊥
-  no-set e =
-      let m = o .ranked .placed .terms .limits .proper .after-marks in
-      let f = o .ranked .placed .terms .limits .proper .before-functors in
-      let g = o .functor in
-      omega arith
+  no-set e = omega (arith, o .no-mark)
 
   pub reckoning-start : Reckoning h ranks p 0 (p + 1) (following h p)
-  reckoning-start = record { of = o; left = left-first (o .ranked .placed) known no-set; so-far = λ b. omega arith }
+  reckoning-start = record { of = o; left = left-first (o .ranked .placed) (o .known) no-set; so-far = λ b. omega arith }
 
   ranked-functor : Kernel h p → rank (valued h p) ≡ suc (rank* (arguments h (p + 1) (following h p)))
   unfolding rank
-  ranked-functor (kernel-empty e s f) =
-      let m = o .ranked .placed .terms .limits .proper .after-marks in
-      let f = o .ranked .placed .terms .limits .proper .before-functors in
-      let g = o .functor in
-      absurd (omega arith)
+  ranked-functor (kernel-empty e s f) = absurd (omega (arith, o .no-mark))
   ranked-functor (kernel-functor e s) = ap rank s
 
   pub functor-rank : rank (valued h p) ≡ suc (rank* (arguments h (p + 1) (following h p)))
-  functor-rank = ranked-functor (kernel-at (o .ranked .placed) known no-set)
-
-  pub functor-known : Known h p
-  functor-known = known
+  functor-rank = ranked-functor (kernel-at (o .ranked .placed) (o .known) no-set)
 
 no-arguments : (h : Held) (x : ℕ) {m : ℕ} → m ≡ 0 → rank* (arguments h x m) ≡ 0
 unfolding arguments taken value* rank
@@ -119,7 +102,7 @@ module _ {h : Held} {ranks : List ℕ} {p r x m : ℕ} (w : Reckoning h ranks p 
             let s = a .told b in
             let t = w .so-far (omega arith) in
             let n = no-arguments h x z in
-            record { known = functor-known (w .of); rank = functor-rank (w .of) ∙ omega (arith, s, t, n) };
+            record { known = w .of .known; rank = functor-rank (w .of) ∙ omega (arith, s, t, n) };
       }
 
   module _ (z : 0 < m) where

@@ -35,5 +35,5 @@ pub record OfSet (h : Held) (ranks : List ℕ) (p : ℕ) : Type 0 where
 
 pub record OfFunctor (h : Held) (ranks : List ℕ) (p : ℕ) : Type 0 where
   pub ranked : Ranked h ranks
-  pub inside : p < length (h .words)
-  pub functor : h .bounds .first-functor ≤ getD (h .words) p 0
+  pub known : Known h p
+  pub no-mark : 2 ≤ getD (h .words) p 0

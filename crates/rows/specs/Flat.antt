@@ -1,17 +1,17 @@
--- What is asked of terms, asked of their words: an unknown's word occurs where the unknown does. Where it does not, there is nothing to replace,
--- and no walk finds it.
+-- What is asked of terms, asked of their words: an unknown's word occurs where the unknown does, and to put a term for an unknown is to replace
+-- the unknown's word by the term's words. Where it does not occur, there is nothing to replace, and no walk finds it.
 use Prim.Native.Nat.{ℕ, zero, suc, _+_, _<_}
-use mathlib.Core.Path.{_≡_, refl, _∙_}
-use mathlib.Core.List.{List, [], _∷_, _++_}
+use mathlib.Core.Path.{_≡_, refl, ap, _∙_}
+use mathlib.Core.List.{List, [], _∷_, _++_, append-nil}
 use mathlib.Core.Bool.{Bool, false, _||_, or-false}
 use native.Mathlib.Omega.{arith}
-use lib.Dec.{eqb, ltb}
-use borrow.Author.Tests.{ne-eqb}
-use Rattle.room.specs.Replaced.{replaced, count, replaced-none}
-use Rattle.terms.specs.Bounds.{Bounds, Proper}
+use lib.Dec.{eqb}
+use borrow.Author.Tests.{eqb-true, eqb-false, ne-eqb}
+use Rattle.room.specs.Replaced.{replaced, count, replaced-none, replaced-append, replaced-cons, replaced-nil, image-same, image-other}
+use Rattle.terms.specs.Bounds.{Bounds, UnknownsFirst}
 use Rattle.terms.specs.Kind.{takes}
 use Rattle.terms.specs.Lists.{any, or-neither, cases}
-use Rattle.terms.specs.Term.{Term, Terms, unknown, empty, with, functor, none, more, words, words*, occurs, occurs*}
+use Rattle.terms.specs.Term.{Term, Terms, unknown, empty, with, functor, none, more, words, words*, subst, subst*, occurs, occurs*}
 use Rattle.terms.specs.Flat.{eqb-shift}
 use Rattle.walks.specs.declared.occurrence.Occurrence.the-variants.{Absent}
 use Rattle.walks.specs.Occurrence.{in-terms, in-rest}
@@ -49,20 +49,20 @@ absent-in-rest b arities x [] due h = refl
 absent-in-rest b arities x (w ∷ ws) zero h =
     let n = or-neither (eqb w x) (holds x ws) h in
     rw (n .0, absent-in-rest b arities x ws 1 (n .1), absent-in-terms b arities x ws (takes b arities w) (n .1))
-    (cases (eqb w 1) (λ t. rw t) (λ f. rw f (cases (ltb w (b .first-functor)) (λ t. rw t) (λ g. rw g))))
+    (cases (eqb w 1) (λ t. rw t) (λ f. rw f))
 absent-in-rest b arities x (w ∷ ws) (suc due) h =
     let n = or-neither (eqb w x) (holds x ws) h in
     rw (n .0) (absent-in-rest b arities x ws (due + takes b arities w) (n .1))
 
-module _ {b : Bounds} (proper : Proper b) {x : ℕ} (h : x < b .unknown-words) where
+module _ {b : Bounds} (order : UnknownsFirst b) {x : ℕ} (h : x < b .unknown-words) where
   abbrev word : ℕ
   word = b .first-unknown + x
 
   pub mark-other : (w : ℕ) → w < 2 → eqb w (b .first-unknown + x) ≡ false
-  mark-other w l = ne-eqb w (b .first-unknown + x) (λ e. omega (arith, proper .after-marks))
+  mark-other w l = ne-eqb w (b .first-unknown + x) (λ e. omega (arith, order .after-marks))
 
   pub functor-other : (k : ℕ) → eqb (b .first-functor + k) (b .first-unknown + x) ≡ false
-  functor-other k = ne-eqb (b .first-functor + k) (b .first-unknown + x) (λ e. omega (arith, proper .before-functors))
+  functor-other k = ne-eqb (b .first-functor + k) (b .first-unknown + x) (λ e. omega (arith, order .before-functors))
 
   mutual
     unfolding words occurs holds any
@@ -77,3 +77,32 @@ module _ {b : Bounds} (proper : Proper b) {x : ℕ} (h : x < b .unknown-words) w
     pub holds-words* : (ts : Terms) → holds (b .first-unknown + x) (words* b ts) ≡ occurs* x ts
     holds-words* none = refl
     holds-words* (more t ts) = holds-append (b .first-unknown + x) (words b t) (words* b ts) ∙ rw (holds-words t, holds-words* ts)
+
+  module _ (s : Term) where
+    kept-word : (w : ℕ) → eqb w (b .first-unknown + x) ≡ false → (ws : List ℕ)
+        → replaced (b .first-unknown + x) (words b s) (w ∷ ws) ≡ w ∷ replaced (b .first-unknown + x) (words b s) ws
+    kept-word w e ws = rw (replaced-cons, image-other (b .first-unknown + x) (words b s) w (eqb-false w (b .first-unknown + x) e))
+
+    mutual
+      unfolding words subst
+
+      pub replaced-words : (t : Term) → replaced (b .first-unknown + x) (words b s) (words b t) ≡ words b (subst x s t)
+      replaced-words (unknown i) =
+          cases (eqb i x)
+          (λ e.
+          rw (e, replaced-cons, replaced-nil, image-same (b .first-unknown + x) (words b s) (b .first-unknown + i) (ap (λ j. b .first-unknown + j) (eqb-true i x e)))
+          (append-nil (words b s)))
+          (λ e.
+          rw (e, replaced-cons, replaced-nil, image-other (b .first-unknown + x) (words b s) (b .first-unknown + i) (λ q. eqb-false i x e (omega arith))))
+      replaced-words empty =
+          kept-word 0 (mark-other 0 (omega arith)) [] ∙ ap (λ ws. 0 ∷ ws) (replaced-nil (b .first-unknown + x) (words b s))
+      replaced-words (with m r) =
+          kept-word 1 (mark-other 1 (omega arith)) (words b m ++ words b r)
+          ∙ ap (λ ws. 1 ∷ ws) (replaced-append (b .first-unknown + x) (words b s) (words b m) (words b r) ∙ rw (replaced-words m, replaced-words r))
+      replaced-words (functor k ts) =
+          kept-word (b .first-functor + k) (functor-other k) (words* b ts) ∙ ap (λ ws. (b .first-functor + k) ∷ ws) (replaced-words* ts)
+
+      pub replaced-words* : (ts : Terms) → replaced (b .first-unknown + x) (words b s) (words* b ts) ≡ words* b (subst* x s ts)
+      replaced-words* none = replaced-nil (b .first-unknown + x) (words b s)
+      replaced-words* (more t ts) =
+          replaced-append (b .first-unknown + x) (words b s) (words b t) (words* b ts) ∙ rw (replaced-words t, replaced-words* ts)

@@ -6,8 +6,8 @@ use mathlib.Core.List.{List, [], _∷_, _++_, append-assoc, append-nil}
 use native.Mathlib.Omega.{arith}
 use lib.ListN.{length, take, getD, length-append}
 use lib.Seq.{take-at, getD-append-add}
-use Rattle.terms.specs.Bounds.{Bounds, Proper}
-use Rattle.terms.specs.Kind.{within, within-first, within-before, within-after, Worded}
+use Rattle.terms.specs.Bounds.{Bounds, UnknownsFirst}
+use Rattle.terms.specs.Kind.{within, within-first, within-before, within-apart, Worded}
 use Rattle.terms.specs.Lists.{any}
 use Rattle.terms.specs.Term.{Term, unknown, empty, with, functor, words, members, kernel, over, occurs}
 use Rattle.terms.specs.Shape.{is-unknown}
@@ -71,17 +71,17 @@ module _ (b : Bounds) where
       rw (words-members t, ← length-members t) (ap (λ (k : ℕ). getD (member-words b (members t) ++ words b (kernel t)) k 0) (omega arith)) in
       e ∙ getD-append-add (member-words b (members t)) (words b (kernel t)) 0 0 ∙ ap (λ (ws : List ℕ). getD ws 0 0) (sym (append-nil (words b (kernel t)))) ∙ head-words (kernel t) []
 
-module _ {b : Bounds} (proper : Proper b) {x : ℕ} (h : x < b .unknown-words) where
+module _ {b : Bounds} (order : UnknownsFirst b) {x : ℕ} (h : x < b .unknown-words) where
   pub holds-members : (ms : List Term) → holds (b .first-unknown + x) (member-words b ms) ≡ any (occurs x) ms
   unfolding member-words holds any
   holds-members [] = refl
   holds-members (m ∷ ms) =
-      rw (mark-other proper h 1 (omega arith)) (holds-append (b .first-unknown + x) (words b m) (member-words b ms) ∙ rw (holds-words proper h m, holds-members ms))
+      rw (mark-other order h 1 (omega arith)) (holds-append (b .first-unknown + x) (words b m) (member-words b ms) ∙ rw (holds-words order h m, holds-members ms))
 
 module _ {b : Bounds} {arities : List ℕ} {n : ℕ} (worded : Worded b arities n) where
   pub head-unknown : {t : Term} → Formed arities n t → within (b .first-unknown) (b .unknown-words) (head-word b t) ≡ is-unknown t
   unfolding head-word is-unknown
   head-unknown (formed-unknown {i = i} h) = within-first (b .first-unknown) (b .unknown-words) i (omega (arith, worded .unknowns))
-  head-unknown formed-empty = within-before (b .first-unknown) (b .unknown-words) 0 (omega (arith, worded .proper .after-marks))
-  head-unknown (formed-with f g) = within-before (b .first-unknown) (b .unknown-words) 1 (omega (arith, worded .proper .after-marks))
-  head-unknown (formed-functor {k = k} h e f) = within-after (b .first-unknown) (b .unknown-words) (b .first-functor + k) (omega (arith, worded .proper .before-functors))
+  head-unknown formed-empty = within-before (b .first-unknown) (b .unknown-words) 0 (omega (arith, worded .proper .unknowns-after-marks))
+  head-unknown (formed-with f g) = within-before (b .first-unknown) (b .unknown-words) 1 (omega (arith, worded .proper .unknowns-after-marks))
+  head-unknown (formed-functor {k = k} h e f) = within-apart (worded .proper .apart) (omega (arith, worded .functors))

@@ -6,11 +6,10 @@ use native.Mathlib.Omega.{arith}
 use lib.Dec.{eqb}
 use borrow.Author.Tests.{eqb-true, eqb-false}
 use Rattle.room.specs.Replaced.{replaced, replaced-nil, replaced-cons, replaced-append, image-same, image-other}
-use Rattle.terms.specs.Bounds.{Bounds, Proper}
+use Rattle.terms.specs.Bounds.{Bounds, UnknownsFirst}
 use Rattle.terms.specs.Term.{Term, words, subst}
 use Rattle.terms.specs.Formed.{Equation, sides, row}
 use Rattle.terms.specs.Answers.{Named, binding-words, pile-words}
-use Rattle.terms.specs.Flat.{words-subst}
 use Rattle.terms.specs.Lists.{cases}
 use Rattle.search.specs.State.{State}
 use Rattle.search.specs.Children.{replace-in, entries, others, released, kept, bound-state}
@@ -32,13 +31,13 @@ module _ (b : Bounds) where
 
 -- ---- a binding
 
-module _ {b : Bounds} (proper : Proper b) {x : ℕ} (h : x < b .unknown-words) (t : Term) where
+module _ {b : Bounds} (order : UnknownsFirst b) {x : ℕ} (h : x < b .unknown-words) (t : Term) where
   abbrev put-for : List ℕ → List ℕ
   put-for ws = replaced (b .first-unknown + x) (words b t) ws
 
   -- a side, and what stands after it
   side : (u : Term) (ws : List ℕ) → put-for (words b u ++ ws) ≡ words b (subst x t u) ++ put-for ws
-  side u ws = replaced-append (b .first-unknown + x) (words b t) (words b u) ws ∙ ap (λ (vs : List ℕ). vs ++ put-for ws) (sym (words-subst proper x h t u))
+  side u ws = replaced-append (b .first-unknown + x) (words b t) (words b u) ws ∙ ap (λ (vs : List ℕ). vs ++ put-for ws) (replaced-words order h t u)
 
   pub replaced-pending : (es : List Equation) → put-for (pending-words b es) ≡ pending-words b (map (replace-in x t) es)
   unfolding pending-words row sides replace-in

@@ -8,6 +8,7 @@ use lib.Dec.{eqb}
 use lib.ListN.{getD}
 use borrow.Author.Tests.{eq-eqb, ne-eqb, eqb-true, eqb-false}
 use Rattle.terms.specs.Bounds.{Bounds}
+use Rattle.terms.specs.Flat.{eqb-shift}
 use Rattle.terms.specs.Kind.{within, Worded}
 use Rattle.terms.specs.Lists.{any, cases}
 use Rattle.terms.specs.Term.{Term, unknown, words, members, kernel, occurs}
@@ -125,16 +126,16 @@ module _ {b : Bounds} {arities : List ℕ} {n : ℕ} (worded : Worded b arities 
   unfolding head-word tails kernel
   right-unknown {y} h {t} f = rw (kernel-word-term f, tails-of-heads (formed-kernel f) (formed-unknown h)) (meet-term h f _)
 
-  two-unknowns : (x : ℕ) {y : ℕ} → y < n → cond (eqb (b .first-unknown + x) (b .first-unknown + y)) Drop (Bind Different) ≡ classify (unknown x) (unknown y)
+  two-unknowns : (x y : ℕ) → cond (eqb (b .first-unknown + x) (b .first-unknown + y)) Drop (Bind Different) ≡ classify (unknown x) (unknown y)
   unfolding classify meet meet-by occurs
-  two-unknowns x {y} h =
+  two-unknowns x y =
       rw (eqb-shift (b .first-unknown) x y)
       (cases (eqb x y) (λ e. rw e) (λ e. rw (e, ne-eqb y x (λ q. eqb-false x y e (sym q)))))
 
   functors : (k j : ℕ) (s : Step) → cond (eqb (b .first-functor + k) (b .first-functor + j)) (cond (eqb (b .first-functor + k) 0) Drop (cond (eqb (b .first-functor + k) 1) s Decompose)) Dead ≡ cond (eqb k j) Decompose Dead
   functors k j s =
       cases (eqb k j)
-      (λ e. rw (e, eq-eqb (b .first-functor + k) (b .first-functor + j) (ap (λ (i : ℕ). b .first-functor + i) (eqb-true k j e)), ne-eqb (b .first-functor + k) 0 (λ q. omega (arith, worded .proper .after-marks, worded .proper .before-functors)), ne-eqb (b .first-functor + k) 1 (λ q. omega (arith, worded .proper .after-marks, worded .proper .before-functors))))
+      (λ e. rw (e, eq-eqb (b .first-functor + k) (b .first-functor + j) (ap (λ (i : ℕ). b .first-functor + i) (eqb-true k j e)), ne-eqb (b .first-functor + k) 0 (λ q. omega (arith, worded .proper .functors-after-marks)), ne-eqb (b .first-functor + k) 1 (λ q. omega (arith, worded .proper .functors-after-marks))))
       (λ e. rw (e, ne-eqb (b .first-functor + k) (b .first-functor + j) (λ q. eqb-false k j e (omega arith))))
 
   differ : (l r : ℕ) (s : Step) → (l ≡ r → ⊥) → cond (eqb l r) s Dead ≡ Dead
@@ -146,7 +147,7 @@ module _ {b : Bounds} {arities : List ℕ} {n : ℕ} (worded : Worded b arities 
 
   by-kinds : {t u : Term} → Formed arities n t → Formed arities n u → step-by (is-unknown t) (is-unknown u) b arities (words b t) (words b u) ≡ classify t u
   unfolding step-by is-unknown classify words compare-words
-  by-kinds (formed-unknown {i = x} f) (formed-unknown {i = y} g) = two-unknowns x g
+  by-kinds (formed-unknown {i = x} f) (formed-unknown {i = y} g) = two-unknowns x y
   by-kinds (formed-unknown f) formed-empty = left-unknown f formed-empty
   by-kinds (formed-unknown f) (formed-with g k) = left-unknown f (formed-with g k)
   by-kinds (formed-unknown f) (formed-functor g e k) = left-unknown f (formed-functor g e k)
@@ -155,12 +156,12 @@ module _ {b : Bounds} {arities : List ℕ} {n : ℕ} (worded : Worded b arities 
   by-kinds (formed-functor f d h) (formed-unknown g) = right-unknown g (formed-functor f d h)
   by-kinds formed-empty formed-empty = refl
   by-kinds formed-empty (formed-with g k) = refl
-  by-kinds formed-empty (formed-functor {k = j} g e k) = differ 0 (b .first-functor + j) _ (λ q. omega (arith, worded .proper .after-marks, worded .proper .before-functors))
+  by-kinds formed-empty (formed-functor {k = j} g e k) = differ 0 (b .first-functor + j) _ (λ q. omega (arith, worded .proper .functors-after-marks))
   by-kinds (formed-with f h) formed-empty = refl
   by-kinds (formed-with f h) (formed-with g k) = ap Split (two-sets (formed-with f h) (formed-with g k))
-  by-kinds (formed-with f h) (formed-functor {k = j} g e k) = differ 1 (b .first-functor + j) _ (λ q. omega (arith, worded .proper .after-marks, worded .proper .before-functors))
-  by-kinds (formed-functor {k = i} f d h) formed-empty = differ (b .first-functor + i) 0 _ (λ q. omega (arith, worded .proper .after-marks, worded .proper .before-functors))
-  by-kinds (formed-functor {k = i} f d h) (formed-with g k) = differ (b .first-functor + i) 1 _ (λ q. omega (arith, worded .proper .after-marks, worded .proper .before-functors))
+  by-kinds (formed-with f h) (formed-functor {k = j} g e k) = differ 1 (b .first-functor + j) _ (λ q. omega (arith, worded .proper .functors-after-marks))
+  by-kinds (formed-functor {k = i} f d h) formed-empty = differ (b .first-functor + i) 0 _ (λ q. omega (arith, worded .proper .functors-after-marks))
+  by-kinds (formed-functor {k = i} f d h) (formed-with g k) = differ (b .first-functor + i) 1 _ (λ q. omega (arith, worded .proper .functors-after-marks))
   by-kinds (formed-functor {k = i} f d h) (formed-functor {k = j} g e k) = functors i j _
 
   pub step-of-words : {t u : Term} → Formed arities n t → Formed arities n u → step-of b arities (words b t) (words b u) ≡ classify t u

@@ -75,14 +75,14 @@ module _ {b : Bounds} {arities : List ℕ} {n : ℕ} (worded : Worded b arities 
 
   pub stripped-words : {t : Term} → Formed arities n t → (ws : List ℕ) (place : ℕ) → stripped b arities (words b t ++ ws) 0 place ≡ place + kernel-place t
   unfolding stripped words kernel-place
-  stripped-words (formed-unknown {i = i} h) ws place = stops (b .first-unknown + i) ws place (λ e. omega (arith, worded .proper .after-marks))
+  stripped-words (formed-unknown {i = i} h) ws place = stops (b .first-unknown + i) ws place (λ e. omega (arith, worded .proper .unknowns-after-marks))
   stripped-words formed-empty ws place = omega arith
   stripped-words (formed-with {m = m} {r = r} f g) ws place =
       rw (append-assoc (words b m) (words b r) ws)
       (past worded {P = λ w. Unit {0}} (stripped b arities) (λ w vs d p u. refl) f (All-units (words b m)) (words b r ++ ws) 0 (place + 1)
       ∙ stripped-words g ws (place + 1 + size m)
       ∙ omega arith)
-  stripped-words (formed-functor {k = k} {ts = ts} h e f) ws place = stops (b .first-functor + k) (words* b ts ++ ws) place (λ e. omega (arith, worded .proper .after-marks, worded .proper .before-functors))
+  stripped-words (formed-functor {k = k} {ts = ts} h e f) ws place = stops (b .first-functor + k) (words* b ts ++ ws) place (λ e. omega (arith, worded .proper .functors-after-marks))
 
   pub kernel-at-words : {t : Term} → Formed arities n t → (ws : List ℕ) → kernel-at b arities (words b t ++ ws) ≡ kernel-place t
   kernel-at-words {t} f ws = stripped-words f ws 0 ∙ zero-add (kernel-place t)

@@ -12,7 +12,7 @@ use Rattle.room.specs.Room.{seg, put, seg-seg}
 use Rattle.replace.specs.Fitting.{told-done, told-full}
 use Rattle.replace.specs.declared.Copied.{Copied}
 use Rattle.replace.specs.declared.Copied.the-variants.{Done, Full}
-use Rattle.terms.specs.Bounds.{edition-one, edition-one-proper}
+use Rattle.terms.specs.Bounds.{edition-one, edition-one-unknowns-first}
 use Rattle.terms.specs.Lists.{any, cond-or}
 use Rattle.terms.specs.Term.{Term, unknown, words, kernel, occurs, over, subst}
 use Rattle.terms.specs.Flat.{length-words}
@@ -209,7 +209,7 @@ module _ {arities l : List ℕ} {from : ℕ} {rest : Rest} {sides : Sides} {to l
 
       holds-of : (z n : ℕ) → z ≡ 1000 + n → n < next → (ms : List Term) → holds z (member-words edition-one ms) ≡ any (occurs n) ms
       unfolding edition-one
-      holds-of z n e h ms = let N = numbers (D .opened) in rw e (holds-members edition-one-proper (omega arith) ms)
+      holds-of z n e h ms = let N = numbers (D .opened) in rw e (holds-members edition-one-unknowns-first (omega arith) ms)
 
       module _ {c : Bool}
           (test : c ≡ (holds x (seg q (fourth lent scratch) (fourth lent scratch + joined .u - fourth lent scratch))

@@ -10,7 +10,7 @@ use Rattle.room.specs.Parts.{ReplaceParts, earlier, later, seg-put, seg-set}
 use Rattle.room.specs.Replaced.{replaced}
 use Rattle.replace.specs.Fitting.{fitting, told}
 use Rattle.replace.specs.declared.Copied.{Copied}
-use Rattle.terms.specs.Bounds.{edition-one, edition-one-proper}
+use Rattle.terms.specs.Bounds.{edition-one, edition-one-unknowns-first}
 use Rattle.terms.specs.Term.{Term, unknown, words, over}
 use Rattle.terms.specs.Flat.{words-subst}
 use Rattle.rows.specs.Members.{member-words, words-over}
@@ -101,7 +101,7 @@ module _ (lent scratch : ℕ) where
           (room : r ≡ put ended value (fitting x (seg ended first (joined .u + 1)) lent (seg ended second (joined .t + 1)))) where
         piece-is : replaced x (seg ended first (joined .u + 1)) (seg ended second (joined .t + 1)) ≡ words edition-one (second-value p next s)
         unfolding second-value edition-one
-        piece-is = rw (x-is, u-ended, t-ended) (sym (words-subst edition-one-proper s small (first-value p next) (over (to-right p) (unknown next))))
+        piece-is = rw (x-is, u-ended, t-ended) (replaced-words edition-one-unknowns-first small (first-value p next) (over (to-right p) (unknown next)))
 
         wrote : Wrote ended value lent (words edition-one (second-value p next s)) a r
         wrote = rw piece-is at (wrote-replaced x (seg ended first (joined .u + 1)) (seg ended second (joined .t + 1)) tells room)

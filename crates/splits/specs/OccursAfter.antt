@@ -8,7 +8,7 @@ use lib.Dec.{eqb}
 use lib.ListN.{length, length-append}
 use borrow.Author.Tests.{eqb-true, ne-eqb}
 use Rattle.room.specs.Replaced.{replaced, length-le-replaced}
-use Rattle.terms.specs.Bounds.{edition-one, edition-one-proper}
+use Rattle.terms.specs.Bounds.{edition-one, edition-one-unknowns-first}
 use Rattle.terms.specs.Lists.{cases}
 use Rattle.terms.specs.Term.{Term, Terms, unknown, empty, with, functor, none, more, words, size, occurs, occurs*, subst, subst*}
 use Rattle.terms.specs.Answers.{Named, binding-words, pile-words}
@@ -68,7 +68,7 @@ module _ (x : ℕ) (h : x < 1000) (t : Term) (st : State) where
       let E : List ℕ = pile-words edition-one (entries x (st .pile)) in
       let O : List ℕ = pile-words edition-one (others x (st .pile)) in
       let B : List ℕ = binding-words edition-one (st .bindings) in
-      let whole : length ((f A ++ f E) ++ (f O ++ (B ++ (x ∷ words edition-one t)))) ≡ length (state-words edition-one (bound-state x t st)) = ap length (bound-body edition-one-proper h t st) in
+      let whole : length ((f A ++ f E) ++ (f O ++ (B ++ (x ∷ words edition-one t)))) ≡ length (state-words edition-one (bound-state x t st)) = ap length (bound-body edition-one-unknowns-first h t st) in
       let total = length-state edition-one (bound-state x t st) in
       let one = length-append (f A ++ f E) (f O ++ (B ++ (x ∷ words edition-one t))) in
       let two = length-append (f A) (f E) in

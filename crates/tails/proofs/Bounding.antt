@@ -10,7 +10,7 @@ use Rattle.room.specs.Parts.{apart-part, seg-put}
 use Rattle.room.specs.Replaced.{replaced, replaced-append}
 use Rattle.replace.specs.Fitting.{told-full}
 use Rattle.replace.specs.declared.Copied.the-variants.{Done, Full}
-use Rattle.terms.specs.Bounds.{edition-one, edition-one-proper}
+use Rattle.terms.specs.Bounds.{edition-one, edition-one-unknowns-first}
 use Rattle.terms.specs.Term.{Term, words, occurs}
 use Rattle.terms.specs.Formed.{Equation}
 use Rattle.search.specs.State.{State, state-size}
@@ -45,7 +45,7 @@ news-size x h t ds next st =
     let all : pending-words edition-one (E ++ R) ≡ (f (pending-words edition-one ds) ++ f (pending-words edition-one (st .pending))) ++ pending-words edition-one R =
     pending-append edition-one E R
     ∙ ap (λ (ws : List ℕ). ws ++ pending-words edition-one R)
-    (sym (replaced-pending edition-one-proper h t (ds ++ st .pending)) ∙ ap f (pending-append edition-one ds (st .pending))
+    (sym (replaced-pending edition-one-unknowns-first h t (ds ++ st .pending)) ∙ ap f (pending-append edition-one ds (st .pending))
     ∙ replaced-append (1000 + x) (words edition-one t) (pending-words edition-one ds) (pending-words edition-one (st .pending))) in
     omega (
       arith,
@@ -138,7 +138,7 @@ module _ {arities l : List ℕ} {from : ℕ} {rest : Rest} {sides : Sides} {x by
     unfolding edition-one
     occurs-is =
         let e : by + m - by ≡ m = omega arith in
-        test ∙ rw (e, B .stands .stands, B .x-is) (holds-words edition-one-proper (B .name-small) value)
+        test ∙ rw (e, B .stands .stands, B .x-is) (holds-words edition-one-unknowns-first (B .name-small) value)
 
     pub tail-dead : c ≡ true → Makes edition-one l to lent (bound name value (ahead (news p) next (p .st))) Dead l
     unfolding bound

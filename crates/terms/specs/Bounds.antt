@@ -2,6 +2,7 @@
 -- and `edition-one` has the numbers of edition 1 as its value: SPECIFICATION 3.1, 3.2, 3.4 and 4.6.
 use Prim.Native.Nat.{ℕ, _+_, _≤_}
 use native.Mathlib.Omega.{arith}
+use Rattle.room.specs.Parts.{Apart, earlier}
 
 pub record Bounds : Type 0 where
   -- the word of unknown 0, and how many words from there on count as unknowns
@@ -35,10 +36,11 @@ edition-one = record {
   nesting = 200;
 }
 
--- what the laws of words need: no word says two things, and every number in use has its word
+-- what the laws of words need: no word says two things, and every number in use has its word. Which of the two ranges comes first is open.
 pub record Proper (b : Bounds) : Type 0 where
-  pub after-marks : 2 ≤ b .first-unknown
-  pub before-functors : b .first-unknown + b .unknown-words ≤ b .first-functor
+  pub unknowns-after-marks : 2 ≤ b .first-unknown
+  pub functors-after-marks : 2 ≤ b .first-functor
+  pub apart : Apart (b .first-unknown) (b .unknown-words) (b .first-functor) (b .functor-words)
   pub room-for-unknowns : b .path-unknowns ≤ b .unknown-words
   pub room-for-functors : b .functors ≤ b .functor-words
   pub room-on-a-path : b .unknowns ≤ b .path-unknowns
@@ -46,9 +48,19 @@ pub record Proper (b : Bounds) : Type 0 where
 pub edition-one-proper : Proper edition-one
 unfolding edition-one
 edition-one-proper = record {
-  after-marks = omega arith;
-  before-functors = omega arith;
+  unknowns-after-marks = omega arith;
+  functors-after-marks = omega arith;
+  apart = earlier (omega arith);
   room-for-unknowns = omega arith;
   room-for-functors = omega arith;
   room-on-a-path = omega arith;
 }
+
+-- unknowns' words before functors', as in edition one: then no functor at all, declared or not, has the word of an unknown
+pub record UnknownsFirst (b : Bounds) : Type 0 where
+  pub after-marks : 2 ≤ b .first-unknown
+  pub before-functors : b .first-unknown + b .unknown-words ≤ b .first-functor
+
+pub edition-one-unknowns-first : UnknownsFirst edition-one
+unfolding edition-one
+edition-one-unknowns-first = record { after-marks = omega arith; before-functors = omega arith }

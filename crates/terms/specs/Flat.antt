@@ -1,4 +1,4 @@
--- Terms and their words, side by side: a term has as many words as symbols, and substitution is flat, each word of the unknown
+-- Terms and their words, side by side: a term has as many words as symbols, and substitution in a formed term is flat, each word of the unknown
 -- giving way to the words of what is put for it.
 use Prim.Native.Nat.{ℕ, _+_, _<_}
 use mathlib.Core.Path.{_≡_, refl, ap, sym, _∙_}
@@ -9,9 +9,11 @@ use lib.Dec.{eqb}
 use lib.ListN.{length, length-append}
 use borrow.Author.Tests.{eqb-true, eqb-false, ne-eqb, eq-eqb}
 use Rattle.room.specs.Replaced.{replaced, image, image-other, replaced-cons, replaced-append}
-use Rattle.terms.specs.Bounds.{Bounds, Proper}
-use Rattle.terms.specs.Lists.{cases}
-use Rattle.terms.specs.Formed.{row}
+use Rattle.terms.specs.Bounds.{Bounds}
+use Rattle.terms.specs.Kind.{Worded, apart-words}
+use Rattle.terms.specs.Lists.{All, cases}
+use Rattle.terms.specs.Lists as lists
+use Rattle.terms.specs.Formed.{Formed, Formed*, formed-unknown, formed-empty, formed-with, formed-functor, formed-none, formed-more, row}
 use Rattle.terms.specs.Term.{Term, Terms, unknown, empty, with, functor, none, more, words, words*, size, size*, subst, subst*}
 
 mutual
@@ -43,7 +45,7 @@ words-cond : (b : Bounds) (c : Bool) (s t : Term) → words b (cond c s t) ≡ c
 words-cond b true s t = refl
 words-cond b false s t = refl
 
-module _ {b : Bounds} (proper : Proper b) (x : ℕ) (h : x < b .unknown-words) (s : Term) where
+module _ {b : Bounds} {arities : List ℕ} {n : ℕ} (worded : Worded b arities n) (x : ℕ) (h : x < b .unknown-words) (s : Term) where
   -- a word that is another than that of x stays
   stays : (w : ℕ) (ws : List ℕ) → (w ≡ b .first-unknown + x → ⊥) → replaced (b .first-unknown + x) (words b s) (w ∷ ws) ≡ w ∷ replaced (b .first-unknown + x) (words b s) ws
   stays w ws e = replaced-cons _ _ w ws ∙ ap (λ l. l ++ replaced (b .first-unknown + x) (words b s) ws) (image-other _ _ w e)
@@ -51,18 +53,18 @@ module _ {b : Bounds} (proper : Proper b) (x : ℕ) (h : x < b .unknown-words) (
   mutual
     unfolding words subst replaced image
 
-    pub words-subst : (t : Term) → words b (subst x s t) ≡ replaced (b .first-unknown + x) (words b s) (words b t)
-    words-subst (unknown i) = rw (eqb-shift (b .first-unknown) i x, append-nil) (words-cond b (eqb i x) s (unknown i))
-    words-subst empty = sym (stays 0 [] (λ e. omega arith))
-    words-subst (with m r) =
-        rw (stays 1 (words b m ++ words b r) (λ e. omega arith), replaced-append (b .first-unknown + x) (words b s) (words b m) (words b r), words-subst m, words-subst r)
-    words-subst (functor k ts) = rw (stays (b .first-functor + k) (words* b ts) (λ e. omega arith), words-subst* ts)
+    pub words-subst : {t : Term} → Formed arities n t → words b (subst x s t) ≡ replaced (b .first-unknown + x) (words b s) (words b t)
+    words-subst (formed-unknown {i = i} l) = rw (eqb-shift (b .first-unknown) i x, append-nil) (words-cond b (eqb i x) s (unknown i))
+    words-subst formed-empty = sym (stays 0 [] (λ e. omega arith))
+    words-subst (formed-with {m = m} {r = r} f g) =
+        rw (stays 1 (words b m ++ words b r) (λ e. omega arith), replaced-append (b .first-unknown + x) (words b s) (words b m) (words b r), words-subst f, words-subst g)
+    words-subst (formed-functor {k = k} {ts = ts} l e f) = rw (stays (b .first-functor + k) (words* b ts) (apart-words (worded .proper .apart) h (omega arith)), words-subst* f)
 
-    pub words-subst* : (ts : Terms) → words* b (subst* x s ts) ≡ replaced (b .first-unknown + x) (words b s) (words* b ts)
-    words-subst* none = refl
-    words-subst* (more t ts) = rw (words-subst t, words-subst* ts, replaced-append)
+    pub words-subst* : {ts : Terms} → Formed* arities n ts → words* b (subst* x s ts) ≡ replaced (b .first-unknown + x) (words b s) (words* b ts)
+    words-subst* formed-none = refl
+    words-subst* (formed-more {t = t} {ts = ts} f g) = rw (words-subst f, words-subst* g, replaced-append (b .first-unknown + x) (words b s) (words b t) (words* b ts))
 
-  pub row-subst : (ts : List Term) → row b (map (subst x s) ts) ≡ replaced (b .first-unknown + x) (words b s) (row b ts)
+  pub row-subst : {ts : List Term} → All (Formed arities n) ts → row b (map (subst x s) ts) ≡ replaced (b .first-unknown + x) (words b s) (row b ts)
   unfolding row replaced
-  row-subst [] = refl
-  row-subst (t ∷ ts) = rw (replaced-append (b .first-unknown + x) (words b s) (words b t) (row b ts), words-subst t, row-subst ts)
+  row-subst lists.none = refl
+  row-subst (lists.both {x = t} {xs = ts} f fs) = rw (replaced-append (b .first-unknown + x) (words b s) (words b t) (row b ts), words-subst f, row-subst fs)

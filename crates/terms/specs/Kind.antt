@@ -1,13 +1,14 @@
 -- What a word stands for, and how many terms follow it: SPECIFICATION 3.1; its numbers are those of `Bounds`.
 -- Then the laws: the word of each symbol has its kind, and a kind tells its word.
 use Prim.Native.Nat.{ℕ, _+_, _-_, _<_, _≤_}
-use mathlib.Core.Path.{_≡_, refl}
+use mathlib.Core.Path.{_≡_, refl, _∙_}
 use mathlib.Core.List.{List}
 use mathlib.Core.Bool.{Bool, true, false, cond, _&&_}
 use native.Mathlib.Omega.{arith}
 use lib.Dec.{eqb, leb, ltb}
 use lib.ListN.{length, getD}
 use borrow.Author.Tests.{ne-eqb, lt-ltb, le-ltb, le-leb, lt-leb, eqb-true, leb-true, ltb-true}
+use Rattle.room.specs.Parts.{Apart, earlier, later}
 use Rattle.terms.specs.Bounds.{Bounds, Proper}
 use Rattle.terms.specs.Lists.{cases, and-left, and-right, and-both}
 
@@ -32,7 +33,10 @@ kind b w =
 
 -- how many terms follow a word: the member and the rest, or the arguments
 unfoldable pub takes : Bounds → List ℕ → ℕ → ℕ
-takes b arities w = cond (eqb w 1) 2 (cond (ltb w (b .first-functor)) 0 (getD arities (w - b .first-functor) 0))
+takes b arities w =
+    cond (eqb w 1) 2
+    (cond (within (b .first-unknown) (b .unknown-words) w) 0
+    (cond (ltb w (b .first-functor)) 0 (getD arities (w - b .first-functor) 0)))
 
 -- ---- a kind tells its word
 
@@ -73,9 +77,12 @@ pub record Worded (b : Bounds) (arities : List ℕ) (n : ℕ) : Type 0 where
   pub functors : length arities ≤ b .functor-words
   pub unknowns : n ≤ b .unknown-words
 
-pub within-first : (first many i : ℕ) → i < many → within first many (first + i) ≡ true
+pub within-between : (first many w : ℕ) → first ≤ w → w < first + many → within first many w ≡ true
 unfolding within
-within-first first many i h = and-both (le-leb first (first + i) (omega arith)) (lt-ltb (first + i) (first + many) (omega arith))
+within-between first many w l m = and-both (le-leb first w l) (lt-ltb w (first + many) m)
+
+pub within-first : (first many i : ℕ) → i < many → within first many (first + i) ≡ true
+within-first first many i h = within-between first many (first + i) (omega arith) (omega arith)
 
 pub within-before : (first many w : ℕ) → w < first → within first many w ≡ false
 unfolding within
@@ -84,6 +91,30 @@ within-before first many w h = rw (lt-leb first w h)
 pub within-after : (first many w : ℕ) → first + many ≤ w → within first many w ≡ false
 unfolding within
 within-after first many w h = rw (le-leb first w (omega arith), le-ltb w (first + many) h)
+
+-- two ranges apart: a word of the one is none of the other
+pub within-apart : {first many other more : ℕ} → Apart first many other more → {k : ℕ} → k < more → within first many (other + k) ≡ false
+within-apart (earlier a) l = within-after _ _ _ (omega arith)
+within-apart (later a) l = within-before _ _ _ (omega arith)
+
+pub apart-words : {first many other more : ℕ} → Apart first many other more → {i k : ℕ} → i < many → k < more → other + k ≡ first + i → ⊥
+apart-words (earlier a) h l e = omega arith
+apart-words (later a) h l e = omega arith
+
+pub kind-nothing : (b : Bounds) (w : ℕ) → 2 ≤ w → within (b .first-unknown) (b .unknown-words) w ≡ false → within (b .first-functor) (b .functor-words) w ≡ false
+    → kind b w ≡ of-nothing
+unfolding kind
+kind-nothing b w h u f = rw (ne-eqb w 0 (λ e. omega arith), ne-eqb w 1 (λ e. omega arith), u, f)
+
+-- what follows a word, by where it lies: below the functors' words nothing but after the member mark, and from there on, where it is no unknown's, by the table
+module _ (b : Bounds) (arities : List ℕ) {w : ℕ} (n : w ≡ 1 → ⊥) where
+  pub takes-none : w < b .first-functor → takes b arities w ≡ 0
+  unfolding takes
+  takes-none l = cases (within (b .first-unknown) (b .unknown-words) w) (λ t. rw (ne-eqb w 1 n, t)) (λ t. rw (ne-eqb w 1 n, t, lt-ltb w (b .first-functor) l))
+
+  pub takes-table : within (b .first-unknown) (b .unknown-words) w ≡ false → b .first-functor ≤ w → takes b arities w ≡ getD arities (w - b .first-functor) 0
+  unfolding takes
+  takes-table u l = rw (ne-eqb w 1 n, u, le-ltb w (b .first-functor) l)
 
 module _ {b : Bounds} (proper : Proper b) where
   pub kind-unknown : (i : ℕ) → i < b .unknown-words → kind b (b .first-unknown + i) ≡ of-unknown i
@@ -99,32 +130,10 @@ module _ {b : Bounds} (proper : Proper b) where
       rw (
         ne-eqb (b .first-functor + k) 0 (λ e. omega arith),
         ne-eqb (b .first-functor + k) 1 (λ e. omega arith),
-        within-after (b .first-unknown) (b .unknown-words) (b .first-functor + k) (omega arith),
+        within-apart (proper .apart) h,
         within-first (b .first-functor) (b .functor-words) k h,
         e,
       )
-
-  -- the same of a word that lies between the marks
-  module _ (w : ℕ) (h : 2 ≤ w) where
-    pub kind-low : w < b .first-unknown → kind b w ≡ of-nothing
-    unfolding kind
-    kind-low l =
-        rw (
-          ne-eqb w 0 (λ e. omega arith),
-          ne-eqb w 1 (λ e. omega arith),
-          within-before (b .first-unknown) (b .unknown-words) w l,
-          within-before (b .first-functor) (b .functor-words) w (omega arith),
-        )
-
-    pub kind-high : b .first-functor + b .functor-words ≤ w → kind b w ≡ of-nothing
-    unfolding kind
-    kind-high l =
-        rw (
-          ne-eqb w 0 (λ e. omega arith),
-          ne-eqb w 1 (λ e. omega arith),
-          within-after (b .first-unknown) (b .unknown-words) w (omega arith),
-          within-after (b .first-functor) (b .functor-words) w l,
-        )
 
   pub kind-of-unknown : (w : ℕ) → b .first-unknown ≤ w → w < b .first-unknown + b .unknown-words → kind b w ≡ of-unknown (w - b .first-unknown)
   kind-of-unknown w l m =
@@ -138,8 +147,7 @@ module _ {b : Bounds} (proper : Proper b) where
 
   module _ (arities : List ℕ) where
     pub takes-empty : takes b arities 0 ≡ 0
-    unfolding takes
-    takes-empty = rw (lt-ltb 0 (b .first-functor) (omega arith))
+    takes-empty = takes-none b arities (λ e. omega arith) (omega arith)
 
     pub takes-member : takes b arities 1 ≡ 2
     unfolding takes
@@ -147,10 +155,9 @@ module _ {b : Bounds} (proper : Proper b) where
 
     pub takes-unknown : (i : ℕ) → i < b .unknown-words → takes b arities (b .first-unknown + i) ≡ 0
     unfolding takes
-    takes-unknown i h = rw (ne-eqb (b .first-unknown + i) 1 (λ e. omega arith), lt-ltb (b .first-unknown + i) (b .first-functor) (omega arith))
+    takes-unknown i h = rw (ne-eqb (b .first-unknown + i) 1 (λ e. omega arith), within-first (b .first-unknown) (b .unknown-words) i h)
 
-    pub takes-functor : (k : ℕ) → takes b arities (b .first-functor + k) ≡ getD arities k 0
-    unfolding takes
-    takes-functor k =
+    pub takes-functor : (k : ℕ) → k < b .functor-words → takes b arities (b .first-functor + k) ≡ getD arities k 0
+    takes-functor k h =
         let e : b .first-functor + k - b .first-functor ≡ k = omega arith in
-        rw (ne-eqb (b .first-functor + k) 1 (λ e. omega arith), le-ltb (b .first-functor + k) (b .first-functor) (omega arith), e)
+        takes-table b arities (λ e. omega arith) (within-apart (proper .apart) h) (omega arith) ∙ rw e

@@ -66,7 +66,7 @@ module _ {b : Bounds} {arities : List ℕ} {n : ℕ} (worded : Worded b arities 
         ∙ past g (All-back (words b m) (words b r) ss) ws d (p + 1 + size m)
         ∙ ap (F ws d) (omega arith))
     past (formed-functor {k = k} {ts = ts} h e f) (both s ss) ws d p =
-        pass (b .first-functor + k) (words* b ts ++ ws) d (d + count ts) p s (omega (arith, takes-functor (worded .proper) arities k))
+        pass (b .first-functor + k) (words* b ts ++ ws) d (d + count ts) p s (omega (arith, takes-functor (worded .proper) arities k (omega arith)))
         ∙ past* f ss ws d (p + 1)
         ∙ ap (F ws d) (omega arith)
 

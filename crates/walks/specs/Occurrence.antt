@@ -4,11 +4,11 @@ use mathlib.Core.Path.{_≡_, refl, ap, sym, _∙_}
 use mathlib.Core.List.{List, [], _∷_, _++_, append-assoc}
 use mathlib.Core.Bool.{Bool, true, false, cond, _||_, _&&_, not}
 use native.Mathlib.Omega.{arith}
-use lib.Dec.{eqb, ltb}
+use lib.Dec.{eqb}
 use native.Mathlib.Nat.{add-zero, add-suc, zero-add}
-use borrow.Author.Tests.{ne-eqb, lt-ltb, le-ltb}
+use borrow.Author.Tests.{ne-eqb}
 use Rattle.terms.specs.Bounds.{Bounds}
-use Rattle.terms.specs.Kind.{takes, takes-empty, takes-member, takes-unknown, takes-functor, Worded}
+use Rattle.terms.specs.Kind.{takes, takes-empty, takes-member, takes-unknown, takes-functor, apart-words, Worded}
 use Rattle.terms.specs.Flat.{eqb-shift}
 use Rattle.terms.specs.Lists.{any, cases, cond-or}
 use Rattle.terms.specs.Shape.{is-unknown, number}
@@ -37,10 +37,7 @@ in-terms b arities x (w ∷ ws) (suc due) = cond (eqb w x) Inside (in-terms b ar
 unfoldable pub in-rest : Bounds → List ℕ → ℕ → List ℕ → (due : ℕ) → Occurrence
 in-rest b arities x [] due = Absent
 in-rest b arities x (w ∷ ws) (suc due) = cond (eqb w x) Inside (in-rest b arities x ws (due + takes b arities w))
-in-rest b arities x (w ∷ ws) zero =
-    cond (eqb w x) Tail
-    (cond (eqb w 1) (in-rest b arities x ws 1)
-    (cond (ltb w (b .first-functor)) Absent (in-terms b arities x ws (takes b arities w))))
+in-rest b arities x (w ∷ ws) zero = cond (eqb w x) Tail (cond (eqb w 1) (in-rest b arities x ws 1) (in-terms b arities x ws (takes b arities w)))
 
 pub no-terms : (b : Bounds) (arities : List ℕ) (x : ℕ) (ws : List ℕ) → in-terms b arities x ws 0 ≡ Absent
 unfolding in-terms
@@ -68,7 +65,8 @@ module _ {b : Bounds} {arities : List ℕ} {n : ℕ} (worded : Worded b arities 
           (other 1 (words b m ++ (words b r ++ ws)) d (suc (suc d)) (λ e. omega arith) (omega (arith, takes-member (worded .proper) arities))
           ∙ seek f (words b r ++ ws) (suc d))
       seek (formed-functor {k = k} {ts = ts} g e f) ws d =
-          other (b .first-functor + k) (words* b ts ++ ws) d (d + count ts) (λ e. omega arith) (omega (arith, takes-functor (worded .proper) arities k))
+          other (b .first-functor + k) (words* b ts ++ ws) d (d + count ts) (apart-words (worded .proper .apart) h (omega arith))
+          (omega (arith, takes-functor (worded .proper) arities k (omega arith)))
           ∙ seek* f ws d
 
       seek* : {ts : Terms} → Formed* arities n ts → (ws : List ℕ) (d : ℕ) → F (words* b ts ++ ws) (d + count ts) ≡ cond (occurs* x ts) Inside (F ws d)
@@ -90,8 +88,14 @@ module _ {b : Bounds} {arities : List ℕ} {n : ℕ} (worded : Worded b arities 
   pub in-rest-occurrence : {t : Term} → Formed arities n t → (ws : List ℕ) → in-rest b arities (b .first-unknown + x) (words b t ++ ws) 0 ≡ occurrence x t
   unfolding in-rest words occurrence in-kernel members kernel any
   in-rest-occurrence (formed-unknown {i = i} g) ws =
-      rw (eqb-shift (b .first-unknown) i x, ne-eqb (b .first-unknown + i) 1 (λ e. omega arith), lt-ltb (b .first-unknown + i) (b .first-functor) (omega arith))
-  in-rest-occurrence formed-empty ws = rw (ne-eqb 0 (b .first-unknown + x) (λ e. omega arith), lt-ltb 0 (b .first-functor) (omega arith))
+      rw (
+        eqb-shift (b .first-unknown) i x,
+        ne-eqb (b .first-unknown + i) 1 (λ e. omega arith),
+        takes-unknown (worded .proper) arities i (omega arith),
+        no-terms b arities (b .first-unknown + x) ws,
+      )
+  in-rest-occurrence formed-empty ws =
+      rw (ne-eqb 0 (b .first-unknown + x) (λ e. omega arith), takes-empty (worded .proper) arities, no-terms b arities (b .first-unknown + x) ws)
   in-rest-occurrence (formed-with {m = m} {r = r} f g) ws =
       rw (ne-eqb 1 (b .first-unknown + x) (λ e. omega arith), append-assoc (words b m) (words b r) ws)
       (seek (in-rest b arities (b .first-unknown + x)) rest-word f (words b r ++ ws) 0
@@ -99,10 +103,9 @@ module _ {b : Bounds} {arities : List ℕ} {n : ℕ} (worded : Worded b arities 
       ∙ sym (cond-or (occurs x m) (any (occurs x) (members r)) Inside (in-kernel x (kernel r))))
   in-rest-occurrence (formed-functor {k = k} {ts = ts} g e f) ws =
       rw (
-        ne-eqb (b .first-functor + k) (b .first-unknown + x) (λ e. omega arith),
+        ne-eqb (b .first-functor + k) (b .first-unknown + x) (apart-words (worded .proper .apart) h (omega arith)),
         ne-eqb (b .first-functor + k) 1 (λ e. omega arith),
-        le-ltb (b .first-functor + k) (b .first-functor) (omega arith),
-        takes-functor (worded .proper) arities k,
+        takes-functor (worded .proper) arities k (omega arith),
         ← e,
         ← (zero-add (count ts)),
       )

@@ -5,7 +5,7 @@ use borrow.Author.Tests.{lt-ltb, le-ltb}
 use native.Mathlib.Omega.{arith}
 use Rattle.terms.specs.Bounds.{edition-one, edition-one-proper}
 use Rattle.checks.specs.Check.{follow, follows}
-use Rattle.terms.specs.Kind.{kind, kind-low, kind-high, kind-of-unknown, kind-of-functor}
+use Rattle.terms.specs.Kind.{kind, kind-nothing, kind-of-unknown, kind-of-functor, within-before, within-after}
 use Rattle.checks.proofs.check.what_follows.Statement.{statement}
 use Rattle.checks.proofs.check.what_follows.Tie as tie
 
@@ -19,7 +19,7 @@ returns-2 c = rw (c .if2 .taken)
 
 returns-3 : tie.Need-returns-3
 unfolding follow follows edition-one
-returns-3 c = sym (ap (follows _ _) (kind-low edition-one-proper _ (omega arith) (omega arith)))
+returns-3 c = sym (ap (follows _ _) (kind-nothing edition-one _ (omega arith) (within-before _ _ _ (omega arith)) (within-before _ _ _ (omega arith))))
 
 cast-i : tie.Need-cast-i
 cast-i c = search needs
@@ -48,7 +48,7 @@ returns-7 c = sym (ap (follows _ _) (kind-of-functor edition-one-proper _ (omega
 
 returns-8 : tie.Need-returns-8
 unfolding follow follows edition-one
-returns-8 c = sym (ap (follows _ _) (kind-high edition-one-proper _ (omega arith) (omega arith)))
+returns-8 c = sym (ap (follows _ _) (kind-nothing edition-one _ (omega arith) (within-after _ _ _ (omega arith)) (within-after _ _ _ (omega arith))))
 
 pub what-follows-spec : {M : Type 1} → statement M
 what-follows-spec =

@@ -2,7 +2,7 @@ use native.Mathlib.Omega.{arith}
 use borrow.Author.Needs.{needs}
 use Rattle.terms.specs.Bounds.{edition-one}
 use Rattle.ranks.specs.Ranked.{not-told}
-use Rattle.ranks.proofs.Ranking.{empty-told}
+use Rattle.ranks.proofs.Ranking.{empty-told, high-known}
 use Rattle.ranks.proofs.ranks.rank_of.Statement.{statement}
 use Rattle.ranks.proofs.ranks.rank_of.Tie as tie
 
@@ -26,7 +26,9 @@ returns-3 c = not-told (omega arith)
 
 rank-of-functor-requires : tie.Need-rank-of-functor-requires
 unfolding edition-one
-rank-of-functor-requires c κs = let o = c .before .before .before .before .before .before .before .before .pre in record { ranked = o .ranked; inside = o .inside; functor = c .if3 .left }
+rank-of-functor-requires c κs =
+    let o = c .before .before .before .before .before .before .before .before .pre in
+    record { ranked = o .ranked; known = high-known (o .ranked .placed) (o .inside) (c .if3 .left); no-mark = omega (arith, c .if3 .left) }
 
 returns-4 : tie.Need-returns-4
 returns-4 c = c .rank-of-functor .ensures

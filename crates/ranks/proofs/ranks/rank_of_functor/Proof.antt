@@ -15,13 +15,13 @@ abbrev μ-loop : tie.MeasureT-loop
 μ-loop arities words starts ranks p rank₀ x₀ due₀ rank x due = due
 
 add-x : tie.Need-add-x Inv-loop μ-loop
-add-x c = let o = c .before .before .before .before .pre in omega (arith, o .inside)
+add-x c = let o = c .before .before .before .before .pre in omega (arith, o .known .inside)
 
 mul-terms-after : tie.Need-mul-terms-after Inv-loop μ-loop
-mul-terms-after c = let o = c .before .before .before .before .pre in omega (arith, o .inside)
+mul-terms-after c = let o = c .before .before .before .before .pre in omega (arith, o .known .inside)
 
 shared-slice-read-terms-after : tie.Need-shared-slice-read-terms-after Inv-loop μ-loop
-shared-slice-read-terms-after c = c .before .before .before .before .before .pre .inside
+shared-slice-read-terms-after c = c .before .before .before .before .before .pre .known .inside
 
 terms-after-requires : tie.Need-terms-after-requires Inv-loop μ-loop
 terms-after-requires c κs = search needs

@@ -83,11 +83,10 @@ in-arguments-requires : tie.Need-in-arguments-requires Inv-loop μ-loop
 in-arguments-requires c κs = record { inside = omega arith; few = c .before .before .before .before .before .before .before .before .before .before .pre .few }
 
 returns-4 : tie.Need-returns-4 Inv-loop μ-loop
-unfolding edition-one
 returns-4 c =
     c .in-arguments .ensures
     ∙ sym (c .before .before .before .before .before .before .before .before .loop .inv .0
-    ∙ rest-arguments edition-one _ _ _ (c .before .before .before .before .before .before .before .loop-test .taken) (c .before .terms-after2 .ensures) _ _ (omega arith) (c .before .before .before .before .if3 .left) (c .before .before .before .if4 .left) (c .before .before .if5 .left))
+    ∙ rest-arguments edition-one _ _ _ (c .before .before .before .before .before .before .before .loop-test .taken) (c .before .terms-after2 .ensures) _ _ (omega arith) (c .before .before .before .before .if3 .left) (c .before .before .before .if4 .left))
 
 returns-5 : tie.Need-returns-5 Inv-loop μ-loop
 returns-5 c = sym (c .before .loop .inv .0 ∙ rest-out edition-one _ _ _ _ _ (c .loop-test .left))
