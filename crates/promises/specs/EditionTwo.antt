@@ -23,11 +23,12 @@ use Rattle.terms.specs.Walk as walk
 use Rattle.laws.specs.Values.{Values, GroundValues, Solves}
 use Rattle.search.specs.declared.ends.End.the-variants.{Done, Names}
 use Rattle.search.specs.State.{State, state-size}
+use Rattle.search.specs.StateWords.{state-words}
 use Rattle.search.specs.Run.{Loan, visits, root, ran}
 use Rattle.search.specs.Specimens.{a, x0, asks, ample, computing}
 use Rattle.answers.specs.Fits.{States, Meets, Fits}
 use Rattle.answers.specs.DemandTwo as demand
-use Rattle.promises.specs.Wording.{NoLess, Begins, whole, Answers-in-form, state-words}
+use Rattle.promises.specs.Wording.{NoLess, Begins, whole, Answers-in-form}
 use Rattle.promises.specs.Promises as promised
 
 unfoldable pub edition-two : Bounds

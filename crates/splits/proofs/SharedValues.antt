@@ -12,7 +12,7 @@ use Rattle.replace.specs.Fitting.{fitting, told}
 use Rattle.replace.specs.declared.Copied.{Copied}
 use Rattle.terms.specs.Bounds.{edition-one, edition-one-unknowns-first}
 use Rattle.terms.specs.Term.{Term, unknown, words, over}
-use Rattle.terms.specs.Flat.{words-subst}
+use Rattle.rows.specs.Flat.{replaced-words}
 use Rattle.rows.specs.Members.{member-words, words-over}
 use Rattle.rows.specs.Wrote.{Wrote, wrote-replaced, done-fits, done-length, done-room}
 use Rattle.splits.specs.declared.different.Joined.{Joined}
