@@ -164,7 +164,7 @@ module _ {arities l : List ℕ} {at : ℕ} {rest : Rest} {right end : ℕ} {kind
             let c : ℕ = choices (copies (sides .n) first ++ copies (sides .m) second) in
             let one : 1 ≤ left = omega arith in
             let m : 1 * c ≤ left * c = mul-le-mul-right c one in
-            opens-none S r′ all-long all-below (rw (all-of S (written .ds) (written .es)) (drop-of-length-le (all-children start) (omega (arith, how-many here, D .value, one-mul c, m))))
+            opens-none S r′ all-long all-below (rw (all-of S (written .ds) (written .es)) (drop-of-length-le (all-children start) {i = number} (omega (arith, how-many here, D .value, one-mul c, m))))
 
         place-of : left ≡ 0 → place start ≡ number
         place-of z =

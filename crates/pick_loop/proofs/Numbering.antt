@@ -68,4 +68,4 @@ module _ {arities l : List ℕ} {at : ℕ} {rest : Rest} {sides : Sides} {kind :
 
   -- after the last one there is none
   pub none-after : suc (number radices (p .ds ++ p .es)) ≡ choices radices → drop (suc (place p)) (all-children p) ≡ []
-  none-after e = drop-of-length-le (all-children p) (omega (arith, how-many, place-is))
+  none-after e = drop-of-length-le (all-children p) {i = suc (place p)} (omega (arith, how-many, place-is))
