@@ -12,9 +12,9 @@ use case_lines::answer::Answer;
 use case_lines::kind::Kind;
 use comparing::equal_case;
 use comparing::values_case;
-use mensorique::Refusal;
-use mensorique::number_of;
 use reading::read_case;
+use terms::refusal::Refusal;
+use terms::refusal::number_of;
 use writing::writel_case;
 use writing::writeq_case;
 

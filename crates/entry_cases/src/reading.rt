@@ -3,8 +3,8 @@ use crate::refused;
 use case_lines::answer::Answer;
 use case_lines::lending::lent_bytes;
 use case_lines::lending::lent_words;
-use mensorique::Question;
-use mensorique::read_question;
+use reader::question::read_question;
+use results::read::Question;
 
 fn told(question: Question) -> Answer {
     match question {

@@ -2,9 +2,9 @@
 use crate::refused;
 use case_lines::answer::Answer;
 use case_lines::lending::lent_bytes;
-use mensorique::Written;
-use mensorique::write_answers;
-use mensorique::write_question;
+use list_writer::list::write_answers;
+use results::written::Written;
+use writer::question::write_question;
 
 fn told(written: Written) -> Answer {
     match written {

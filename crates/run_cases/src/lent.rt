@@ -1,12 +1,12 @@
 // One run, of what a case lends, and what it answers.
 use case_lines::answer::Answer;
 use case_lines::lending::lent_words;
-use mensorique::Ending;
-use mensorique::Ran;
-use mensorique::Refusal;
-use mensorique::number_of;
-use mensorique::number_of_end;
-use mensorique::run;
+use results::ran::Ending;
+use results::ran::Ran;
+use search::ends::number_of_end;
+use solver::run;
+use terms::refusal::Refusal;
+use terms::refusal::number_of;
 
 // The numbers of the refusals and of the ends that are looked for.
 pub const LIMIT: u32 = 3;

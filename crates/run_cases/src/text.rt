@@ -11,8 +11,8 @@ use crate::lent::run_lent;
 use case_lines::answer::Answer;
 use fields::line::first_bytes;
 use fields::line::first_words;
-use mensorique::Question;
-use mensorique::read_question;
+use reader::question::read_question;
+use results::read::Question;
 
 // How large one limit may be beside the other, so that the room suffices.
 fn limit_beside(other: usize, room: usize) -> usize {
