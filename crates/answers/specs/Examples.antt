@@ -21,9 +21,9 @@ use Rattle.laws.specs.Equal.{computing-equal}
 use Rattle.laws.specs.Agree.{agree}
 use Rattle.laws.specs.Apart.{functor-parts}
 use Rattle.laws.specs.Values.{Values, value, in-order, GroundValues, Solves, solves-test, holds-test}
-use Rattle.laws.specs.Substitution.{value-below}
+use Rattle.laws.specs.ValuesPut.{value-below}
 use Rattle.laws.specs.Solving.{solves-agree, ground-in-order}
-use Rattle.terms.specs.Members.{formed-over}
+use Rattle.terms.specs.FormedParts.{formed-over}
 use Rattle.search.specs.declared.ends.End.the-variants.{Done, Steps}
 use Rattle.search.specs.Run.{Loan, ran}
 use Rattle.search.specs.Specimens.{a, b, c, g, x0, set, arities, asks, lending, ample, computing}

@@ -10,7 +10,7 @@ use Rattle.room.specs.Replaced.{replaced}
 use Rattle.replace.specs.Fitting.{fitting, told, further}
 use Rattle.replace.specs.declared.Copied.{Copied}
 use Rattle.replace.specs.declared.Copied.the-variants.{Done, Full}
-use Rattle.terms.specs.Bounds.{edition-one}
+use Rattle.terms.specs.Bounds.{edition-one, FIRST-UNKNOWN}
 use Rattle.rows.specs.declared.parts.Rest.{Rest}
 use Rattle.rows.specs.declared.parts.Part.the-variants.{Entries}
 use Rattle.rows.specs.Pile.{selection}
@@ -77,7 +77,7 @@ module _ {r₀ : List ℕ} {rest : Rest} {by m to capacity : ℕ} (P : BindParts
   unfolding last-piece
   length-last x =
       let b : List ℕ = seg r₀ (rest .at + rest .pending + rest .pile) (rest .bound) in
-      omega (arith, length-append b ((x - 1000) ∷ seg r₀ by m), length-seg r₀ (rest .at + rest .pending + rest .pile) (rest .bound) (omega (arith, P .rest-within)), length-seg r₀ by m (P .by-within))
+      omega (arith, length-append b ((x - FIRST-UNKNOWN) ∷ seg r₀ by m), length-seg r₀ (rest .at + rest .pending + rest .pile) (rest .bound) (omega (arith, P .rest-within)), length-seg r₀ by m (P .by-within))
 
   pub last-full : (x : ℕ) → capacity < rest .bound + 1 + m → Wrote r₀ to capacity (last-piece r₀ rest x by m) Full r₀
   last-full x h = wrote-full r₀ to (last-piece r₀ rest x by m) (omega (arith, length-last x))
@@ -97,33 +97,33 @@ module _ {r₀ : List ℕ} {rest : Rest} {by m to capacity : ℕ} (P : BindParts
       length-bindings : length bindings ≡ rest .bound
       length-bindings = length-seg r₀ (rest .at + rest .pending + rest .pile) (rest .bound) (omega (arith, P .rest-within))
 
-      pub named : set r₁ (to + rest .bound) (x - 1000) ≡ put r₀ to (bindings ++ ((x - 1000) ∷ []))
+      pub named : set r₁ (to + rest .bound) (x - FIRST-UNKNOWN) ≡ put r₀ to (bindings ++ ((x - FIRST-UNKNOWN) ∷ []))
       named =
-          ap (λ (l : List ℕ). set l (to + rest .bound) (x - 1000)) e
-          ∙ ap (λ (k : ℕ). set (put r₀ to bindings) (to + k) (x - 1000)) (sym length-bindings)
-          ∙ put-more r₀ to bindings (x - 1000)
+          ap (λ (l : List ℕ). set l (to + rest .bound) (x - FIRST-UNKNOWN)) e
+          ∙ ap (λ (k : ℕ). set (put r₀ to bindings) (to + k) (x - FIRST-UNKNOWN)) (sym length-bindings)
+          ∙ put-more r₀ to bindings (x - FIRST-UNKNOWN)
 
-      pub named-length : length (set r₁ (to + rest .bound) (x - 1000)) ≡ length r₀
-      named-length = ap length named ∙ length-put r₀ to (bindings ++ ((x - 1000) ∷ []))
+      pub named-length : length (set r₁ (to + rest .bound) (x - FIRST-UNKNOWN)) ≡ length r₀
+      named-length = ap length named ∙ length-put r₀ to (bindings ++ ((x - FIRST-UNKNOWN) ∷ []))
 
-      pub value-parts : CopyParts (set r₁ (to + rest .bound) (x - 1000)) by m (to + rest .bound + 1)
+      pub value-parts : CopyParts (set r₁ (to + rest .bound) (x - FIRST-UNKNOWN)) by m (to + rest .bound + 1)
       value-parts = record {
         from-within = rw named-length (P .by-within);
         to-within = rw named-length (omega (arith, P .to-within));
         apart = apart-part (P .by-apart) (omega arith) (omega arith) (omega arith) (omega arith);
       }
 
-      module _ {r₂ : List ℕ} (f : r₂ ≡ put (set r₁ (to + rest .bound) (x - 1000)) (to + rest .bound + 1) (seg (set r₁ (to + rest .bound) (x - 1000)) by m)) where
+      module _ {r₂ : List ℕ} (f : r₂ ≡ put (set r₁ (to + rest .bound) (x - FIRST-UNKNOWN)) (to + rest .bound + 1) (seg (set r₁ (to + rest .bound) (x - FIRST-UNKNOWN)) by m)) where
         abbrev start : List ℕ
-        start = bindings ++ ((x - 1000) ∷ [])
+        start = bindings ++ ((x - FIRST-UNKNOWN) ∷ [])
 
         pub last-written : Wrote r₀ to capacity (last-piece r₀ rest x by m) (Done (rest .bound + 1 + m)) r₂
         unfolding last-piece
         last-written =
             let l = length-bindings in
-            let k : length start ≡ rest .bound + 1 = length-append bindings ((x - 1000) ∷ []) ∙ ap (λ (j : ℕ). j + 1) l in
+            let k : length start ≡ rest .bound + 1 = length-append bindings ((x - FIRST-UNKNOWN) ∷ []) ∙ ap (λ (j : ℕ). j + 1) l in
             let s = unwritten to start named (omega arith) (omega arith) in
             let place : to + rest .bound + 1 ≡ to + length start = omega arith in
-            let whole : r₂ ≡ put r₀ to (bindings ++ ((x - 1000) ∷ seg r₀ by m)) =
+            let whole : r₂ ≡ put r₀ to (bindings ++ ((x - FIRST-UNKNOWN) ∷ seg r₀ by m)) =
             f ∙ rw (s .value, named, place, put-put start r₀ (seg r₀ by m) to, append-assoc) in
             wrote-all (last-piece r₀ rest x by m) (length-last x) h whole

@@ -7,6 +7,7 @@ use lib.ListN.{length}
 use Rattle.room.specs.Room.{seg, put, Within}
 use Rattle.room.specs.Parts.{ReplaceParts}
 use Rattle.room.specs.Replaced.{replaced}
+use Rattle.room.specs.Layout.{HEADER}
 use Rattle.replace.specs.declared.Copied.{Copied}
 use Rattle.replace.specs.declared.Copied.the-variants.{Done, Full}
 use Rattle.terms.specs.Bounds.{edition-one}
@@ -24,32 +25,32 @@ use Rattle.binding.proofs.BindingPieces.{Same, same-pile, same-last, un
 
 -- nothing but the row is written
 module _ {r₀ : List ℕ} {rest : Rest} {by m to written size x next : ℕ} (F : FinishParts r₀ rest by m to written size x next) where
-  pub row-same : {p : List ℕ} {a : Copied} {r : List ℕ} → Wrote r₀ (to + 8 + written) (size - written) p a r → Same r₀ r rest by m
-  row-same w = unwritten (F .parts) (to + 8 + written) (w .out) (w .room) (omega arith) (omega (arith, w .within, F .written-within))
+  pub row-same : {p : List ℕ} {a : Copied} {r : List ℕ} → Wrote r₀ (to + HEADER + written) (size - written) p a r → Same r₀ r rest by m
+  row-same w = unwritten (F .parts) (to + HEADER + written) (w .out) (w .room) (omega arith) (omega (arith, w .within, F .written-within))
 
   -- the next words of the row
-  pub row-next : {p : List ℕ} {k : ℕ} {r : List ℕ} → Wrote r₀ (to + 8 + written) (size - written) p (Done k) r → FinishParts r rest by m to (written + k) size x next
+  pub row-next : {p : List ℕ} {k : ℕ} {r : List ℕ} → Wrote r₀ (to + HEADER + written) (size - written) p (Done k) r → FinishParts r rest by m to (written + k) size x next
   row-next {k = k} w = finish-part F (wrote-length w) k (omega (arith, done-fits w, done-length w))
 
-  pub row-sum : {p : List ℕ} {k : ℕ} {r : List ℕ} → Wrote r₀ (to + 8 + written) (size - written) p (Done k) r → written + k ≤ size
+  pub row-sum : {p : List ℕ} {k : ℕ} {r : List ℕ} → Wrote r₀ (to + HEADER + written) (size - written) p (Done k) r → written + k ≤ size
   row-sum w = omega (arith, done-fits w, done-length w, F .written-within)
 
-  pub others-parts : ReplaceParts r₀ (rest .at + rest .pending) (rest .pile) by m (to + 8 + written) (size - written) × length r₀ < 2 ^ 32
+  pub others-parts : ReplaceParts r₀ (rest .at + rest .pending) (rest .pile) by m (to + HEADER + written) (size - written) × length r₀ < 2 ^ 32
   others-parts = (pile-parts (body-part F), F .parts .small)
 
 -- ---- the bindings and the header
 
 module _ (pending pile : ℕ) {r₀ : List ℕ} {rest : Rest} {by m to size x next : ℕ} (F : FinishParts r₀ rest by m to (pending + pile) size x next) where
-  pub bindings-full : {r : List ℕ} → Wrote r₀ (to + 8 + (pending + pile)) (size - (pending + pile)) (last-piece r₀ rest x by m) Full r
+  pub bindings-full : {r : List ℕ} → Wrote r₀ (to + HEADER + (pending + pile)) (size - (pending + pile)) (last-piece r₀ rest x by m) Full r
       → Finished r₀ to (pending + pile) size (last-piece r₀ rest x by m) (header-of (bound-header rest pending pile m next)) Large r
   bindings-full w =
       rw append-nil at (finished-full [] (header-of (bound-header rest pending pile m next)) (F .written-within) w)
 
-  module _ {k : ℕ} {r : List ℕ} (w : Wrote r₀ (to + 8 + (pending + pile)) (size - (pending + pile)) (last-piece r₀ rest x by m) (Done k) r) where
+  module _ {k : ℕ} {r : List ℕ} (w : Wrote r₀ (to + HEADER + (pending + pile)) (size - (pending + pile)) (last-piece r₀ rest x by m) (Done k) r) where
     abbrev header : Header
     header = record { pending = pending; pile = pile; body = pending + pile + k; bindings = rest .bindings + 1; next = next }
 
-    pub seal-parts : Within r to 8 × Small header
+    pub seal-parts : Within r to HEADER × Small header
     seal-parts =
         let s = row-sum F w in (
           rw (wrote-length w) (omega (arith, F .parts .to-within)),
@@ -82,17 +83,17 @@ module _ (arities : List ℕ) {r₀ : List ℕ} {rest : Rest} {by m to pending s
   Pile-finished a r = Finished r₀ to pending size (others ++ last-piece r₀ rest x by m) (header-of (bound-header rest pending (length others) m next)) a r
 
   as-others : {a : Copied} {r : List ℕ}
-      → Wrote r₀ (to + 8 + pending) (size - pending) (replaced x (seg r₀ by m) (selection edition-one arities Others x (seg r₀ (rest .at + rest .pending) (rest .pile)))) a r
-      → Wrote r₀ (to + 8 + pending) (size - pending) others a r
+      → Wrote r₀ (to + HEADER + pending) (size - pending) (replaced x (seg r₀ by m) (selection edition-one arities Others x (seg r₀ (rest .at + rest .pending) (rest .pile)))) a r
+      → Wrote r₀ (to + HEADER + pending) (size - pending) others a r
   unfolding pile-piece
   as-others w = w
 
   pub pile-full : {r : List ℕ}
-      → Wrote r₀ (to + 8 + pending) (size - pending) (replaced x (seg r₀ by m) (selection edition-one arities Others x (seg r₀ (rest .at + rest .pending) (rest .pile)))) Full r → Pile-finished Large r
+      → Wrote r₀ (to + HEADER + pending) (size - pending) (replaced x (seg r₀ by m) (selection edition-one arities Others x (seg r₀ (rest .at + rest .pending) (rest .pile)))) Full r → Pile-finished Large r
   pile-full w = finished-full (last-piece r₀ rest x by m) _ (F .written-within) (as-others w)
 
   module _ {k : ℕ} {r : List ℕ}
-      (w : Wrote r₀ (to + 8 + pending) (size - pending) (replaced x (seg r₀ by m) (selection edition-one arities Others x (seg r₀ (rest .at + rest .pending) (rest .pile)))) (Done k) r) where
+      (w : Wrote r₀ (to + HEADER + pending) (size - pending) (replaced x (seg r₀ by m) (selection edition-one arities Others x (seg r₀ (rest .at + rest .pending) (rest .pile)))) (Done k) r) where
     pub pile-next : FinishParts r rest by m to (pending + k) size x next
     pile-next = row-next F w
 
@@ -109,11 +110,11 @@ module _ (arities : List ℕ) {r₀ : List ℕ} {rest : Rest} {by m to pending s
   abbrev All-finished : Made → List ℕ → Type 0
   All-finished a r = Finished r₀ to pending size (bound-piece edition-one arities r₀ rest x by m) (header-of (bound-header rest (pending + length front) (length others) m next)) a r
 
-  pub all-full : {r : List ℕ} → Wrote r₀ (to + 8 + pending) (size - pending) front Full r → All-finished Large r
+  pub all-full : {r : List ℕ} → Wrote r₀ (to + HEADER + pending) (size - pending) front Full r → All-finished Large r
   unfolding bound-piece
   all-full w = finished-full (others ++ last-piece r₀ rest x by m) _ (F .written-within) w
 
-  pub all-finished : {k : ℕ} {r : List ℕ} → Wrote r₀ (to + 8 + pending) (size - pending) front (Done k) r → {a : Made} {r′ : List ℕ}
+  pub all-finished : {k : ℕ} {r : List ℕ} → Wrote r₀ (to + HEADER + pending) (size - pending) front (Done k) r → {a : Made} {r′ : List ℕ}
       → Finished r to (pending + k) size (pile-piece edition-one arities r rest x by m ++ last-piece r rest x by m)
       (header-of (bound-header rest (pending + k) (length (pile-piece edition-one arities r rest x by m)) m next)) a r′ → All-finished a r′
   unfolding bound-piece

@@ -6,7 +6,9 @@ use native.Mathlib.Omega.{arith}
 use lib.ListN.{length, length-append}
 use Rattle.room.specs.Room.{seg, put, Within, length-put, length-seg, put-put}
 use Rattle.room.specs.Parts.{CopyParts, apart-part, seg-put}
+use Rattle.room.specs.Layout.{HEADER}
 use Rattle.replace.specs.declared.Copied.the-variants.{Done, Full}
+use Rattle.terms.specs.Bounds.{FIRST-UNKNOWN}
 use Rattle.rows.specs.declared.parts.Rest.{Rest}
 use Rattle.rows.specs.declared.parts.Made.the-variants.{Large, Live}
 use Rattle.rows.specs.declared.header.Header.{Header}
@@ -99,19 +101,19 @@ module _ {r₀ : List ℕ} {rest : Rest} {by m to capacity : ℕ} (P : BindParts
 
 -- ---- and the header
 
-module _ {r₀ : List ℕ} {rest : Rest} {by m to written size next : ℕ} (F : FinishParts r₀ rest by m to written size 1000 next) where
-  pub keep-large : {r : List ℕ} → Wrote r₀ (to + 8 + written) (size - written) (kept-piece r₀ rest by m) Full r
+module _ {r₀ : List ℕ} {rest : Rest} {by m to written size next : ℕ} (F : FinishParts r₀ rest by m to written size FIRST-UNKNOWN next) where
+  pub keep-large : {r : List ℕ} → Wrote r₀ (to + HEADER + written) (size - written) (kept-piece r₀ rest by m) Full r
       → Finished r₀ to written size (kept-piece r₀ rest by m) (header-of (kept-header rest written m next)) Large r
   keep-large w = rw append-nil at (finished-full [] (header-of (kept-header rest written m next)) (F .written-within) w)
 
-  module _ {k : ℕ} {r : List ℕ} (w : Wrote r₀ (to + 8 + written) (size - written) (kept-piece r₀ rest by m) (Done k) r) where
+  module _ {k : ℕ} {r : List ℕ} (w : Wrote r₀ (to + HEADER + written) (size - written) (kept-piece r₀ rest by m) (Done k) r) where
     abbrev header : Header
     header = record { pending = written + rest .pending; pile = rest .pile + m; body = written + k; bindings = rest .bindings; next = next }
 
     k-is : k ≡ rest .pending + rest .pile + m + rest .bound
     k-is = sym (done-length w) ∙ length-kept (body-part F)
 
-    pub keep-seal-parts : Within r to 8 × Small header
+    pub keep-seal-parts : Within r to HEADER × Small header
     keep-seal-parts =
         let s = row-sum F w in
         let e = k-is in (

@@ -8,7 +8,8 @@ use lib.ListN.{length, take, getD}
 use lib.Seq.{take-at, getD-append-add}
 use Rattle.room.specs.Room.{seg, Within, seg-append, seg-seg, take-seg}
 use Rattle.room.specs.Parts.{Apart, earlier}
-use Rattle.terms.specs.Bounds.{edition-one, edition-one-proper}
+use Rattle.room.specs.Layout.{HEADER}
+use Rattle.terms.specs.Bounds.{edition-one, edition-one-proper, PATH-UNKNOWNS, FIRST-UNKNOWN}
 use Rattle.terms.specs.Kind.{Worded}
 use Rattle.terms.specs.Lists.{All, both}
 use Rattle.terms.specs.Term.{Term, unknown, words, size}
@@ -21,18 +22,19 @@ use Rattle.search.specs.State.{State, pend, size-equations, size-named, state-s
 use Rattle.search.specs.Classify.{classify}
 use Rattle.search.specs.StepView.{Sided, as-written, turned-round}
 use Rattle.search.specs.StateWords.{pending-words}
+use Rattle.search.specs.RunLimits.{most-size}
 use Rattle.rows.specs.declared.parts.Rest.{Rest}
 use Rattle.rows.specs.Bind.{BindParts, FinishParts}
 use Rattle.rows.specs.Row.{Holds, Rested, header-for}
 use Rattle.rows.specs.declared.first.Subject.{Subject}
 use Rattle.binding.specs.Child.{Stands}
 use Rattle.rows.specs.Stepping.{unknown-word}
-use Rattle.rows.specs.Members.{head-word, head-words, head-unknown}
+use Rattle.rows.specs.MemberWords.{head-word, head-words, head-unknown}
 use Rattle.rows.specs.First.{first-in, subject-in, subject-by, rest-after, holds-rest, cut-sizes, middle, first-in-words}
 
 pub record Sound (arities : List ℕ) (st : State) : Type 0 where
   pub functors : length arities ≤ 256
-  pub few : st .next ≤ 512
+  pub few : st .next ≤ PATH-UNKNOWNS
   pub pending : All (Formed arities (st .next)) (sides (st .pending))
   pub pile : All (λ n. Formed arities (st .next) (n .value)) (st .pile)
   pub names : All (λ n. n .name < st .next) (st .pile)
@@ -43,10 +45,10 @@ sound-worded S = record { proper = edition-one-proper; functors = omega arith; u
 
 -- a row, the next one and the scratch rows after it, each of 8 + size words
 pub record Rows (l : List ℕ) (from to scratch lent : ℕ) : Type 0 where
-  pub row : from + 8 + lent ≤ to
-  pub next-row : to + 8 + lent ≤ scratch
-  pub scratch-rows : scratch + 4 * (8 + lent) ≤ length l
-  pub lent-small : lent ≤ 8192
+  pub row : from + HEADER + lent ≤ to
+  pub next-row : to + HEADER + lent ≤ scratch
+  pub scratch-rows : scratch + 4 * (HEADER + lent) ≤ length l
+  pub lent-small : lent ≤ most-size
   pub small : length l < 2 ^ 32
 
 -- the row at from holds st, which fits
@@ -70,7 +72,7 @@ module _ {arities l : List ℕ} {from to scratch lent : ℕ} {st : State} (H : H
   rested = holds-rest (H .holds) ds es cut
 
   -- where the rest of the row lies
-  pub bind-parts : {by m : ℕ} → Within l by m → Apart by m to (8 + lent) → BindParts l rest by m to (8 + lent)
+  pub bind-parts : {by m : ℕ} → Within l by m → Apart by m to (HEADER + lent) → BindParts l rest by m to (HEADER + lent)
   unfolding rest-after header-for state-size
   bind-parts {by} {m} h a =
       let s = cut-sizes (H .holds) ds es cut in
@@ -93,7 +95,7 @@ module _ {arities l : List ℕ} {from to scratch lent : ℕ} {st : State} (H : H
       let f : size-equations (st .pending) + size-named (st .pile) + size-named (st .bindings) ≤ lent = H .fits in
       omega (arith, H .rows .row)
 
-  pub finish-parts : {by m : ℕ} → Within l by m → Apart by m to (8 + lent) → (written x next : ℕ) → written ≤ lent → 1000 ≤ x → next < 65536 → FinishParts l rest by m to written lent x next
+  pub finish-parts : {by m : ℕ} → Within l by m → Apart by m to (HEADER + lent) → (written x next : ℕ) → written ≤ lent → FIRST-UNKNOWN ≤ x → next < 65536 → FinishParts l rest by m to written lent x next
   unfolding rest-after header-for state-size
   finish-parts h a written x next w u n = record {
     parts = bind-parts h a;
@@ -108,10 +110,10 @@ module _ {arities l : List ℕ} {from to scratch lent : ℕ} {st : State} (H : H
 
 -- a subject found: x's word, and where t's words stand, among the first words of the body
 pub record SubjectAt (l : List ℕ) (s : Subject) (x : ℕ) (t : Term) (from end : ℕ) : Type 0 where
-  pub word : s .x ≡ 1000 + x
+  pub word : s .x ≡ FIRST-UNKNOWN + x
   pub stands : Stands l (s .by) (s .m) t
-  pub after : from + 8 ≤ s .by
-  pub before : s .by + s .m ≤ from + 8 + end
+  pub after : from + HEADER ≤ s .by
+  pub before : s .by + s .m ≤ from + HEADER + end
 
 -- ---- the first equation
 
@@ -135,53 +137,53 @@ module _ {l : List ℕ} {from : ℕ} {st : State} (holds : Holds edition-one l f
   abbrev R : List ℕ
   R = words edition-one (e .right)
 
-  pub first-words : seg l (from + 8) (size-equations (st .pending)) ≡ L ++ (R ++ pending-words edition-one es)
+  pub first-words : seg l (from + HEADER) (size-equations (st .pending)) ≡ L ++ (R ++ pending-words edition-one es)
   unfolding pending-words row sides size-equations rest-after header-for pend
   first-words =
-      let p : from + 8 + 0 ≡ from + 8 = omega arith in
+      let p : from + HEADER + 0 ≡ from + HEADER = omega arith in
       let n : size-equations (st .pending) - 0 ≡ size-equations (st .pending) = omega arith in
       rw (p, n) at (holds-rest holds [] (st .pending) refl .pending) ∙ rw cut
 
   -- each side in the room
-  pub left-stands : seg l (from + 8) (size (e .left)) ≡ L
+  pub left-stands : seg l (from + HEADER) (size (e .left)) ≡ L
   left-stands =
       let s = first-size st cut in
-      sym (take-seg l (from + 8) (size-equations (st .pending)) (size (e .left)) (omega arith)) ∙ ap (take (size (e .left))) first-words ∙ take-at L _ (size (e .left)) (length-words edition-one (e .left))
+      sym (take-seg l (from + HEADER) (size-equations (st .pending)) (size (e .left)) (omega arith)) ∙ ap (take (size (e .left))) first-words ∙ take-at L _ (size (e .left)) (length-words edition-one (e .left))
 
-  pub right-stands : seg l (from + 8 + size (e .left)) (size (e .right)) ≡ R
+  pub right-stands : seg l (from + HEADER + size (e .left)) (size (e .right)) ≡ R
   right-stands =
       let s = first-size st cut in
-      sym (seg-seg l (from + 8) (size-equations (st .pending)) (size (e .left)) (size (e .right)) (omega arith))
+      sym (seg-seg l (from + HEADER) (size-equations (st .pending)) (size (e .left)) (size (e .right)) (omega arith))
       ∙ middle L R (pending-words edition-one es) (size (e .left)) (size (e .right)) first-words (length-words edition-one (e .left)) (length-words edition-one (e .right))
 
   -- both, as the code lends them
-  pub sides-stand : seg l (from + 8) (size (e .left) + size (e .right)) ≡ L ++ R
-  sides-stand = seg-append l (from + 8) (size (e .left)) (size (e .right)) ∙ rw (left-stands, right-stands)
+  pub sides-stand : seg l (from + HEADER) (size (e .left) + size (e .right)) ≡ L ++ R
+  sides-stand = seg-append l (from + HEADER) (size (e .left)) (size (e .right)) ∙ rw (left-stands, right-stands)
 
   pub first-found : {arities : List ℕ} → Sound arities st
-      → first-in edition-one arities (seg l (from + 8) (size-equations (st .pending))) ≡ record { step = classify (e .left) (e .right); right = size (e .left); end = size (e .left) + size (e .right) }
+      → first-in edition-one arities (seg l (from + HEADER) (size-equations (st .pending))) ≡ record { step = classify (e .left) (e .right); right = size (e .left); end = size (e .left) + size (e .right) }
   first-found sound = let f = first-formed sound cut in rw first-words (first-in-words (sound-worded sound) (f .0) (f .1) (pending-words edition-one es))
 
 module _ {arities l : List ℕ} {from to scratch lent : ℕ} {st : State} (H : Held arities l from to scratch lent st) {e : Equation} {es : List Equation} (cut : st .pending ≡ e ∷ es) where
-  pub sides-within : from + 8 + (size (e .left) + size (e .right)) ≤ to
+  pub sides-within : from + HEADER + (size (e .left) + size (e .right)) ≤ to
   unfolding state-size
   sides-within = let f : size-equations (st .pending) + size-named (st .pile) + size-named (st .bindings) ≤ lent = H .fits in omega (arith, first-size st cut, H .rows .row)
 
   -- ---- an unknown and a term
 
   abbrev found : Subject
-  found = subject-in edition-one (seg l (from + 8) (size (e .left) + size (e .right))) (from + 8) (size (e .left)) (size (e .left) + size (e .right))
+  found = subject-in edition-one (seg l (from + HEADER) (size (e .left) + size (e .right))) (from + HEADER) (size (e .left)) (size (e .left) + size (e .right))
 
   left-word : unknown-word edition-one (getD (words edition-one (e .left) ++ words edition-one (e .right)) 0 0) ≡ is-unknown (e .left)
   unfolding unknown-word
   left-word = rw (head-words edition-one (e .left) (words edition-one (e .right))) (head-unknown (sound-worded (H .sound)) (first-formed (H .sound) cut .0))
 
   found-left : is-unknown (e .left) ≡ true
-      → found ≡ record { x = head-word edition-one (e .left); by = from + 8 + size (e .left); m = size (e .left) + size (e .right) - size (e .left) }
+      → found ≡ record { x = head-word edition-one (e .left); by = from + HEADER + size (e .left); m = size (e .left) + size (e .right) - size (e .left) }
   unfolding subject-in subject-by
   found-left u = rw (sides-stand (H .holds) cut, left-word, u, head-words edition-one (e .left) (words edition-one (e .right)))
 
-  found-right : is-unknown (e .left) ≡ false → found ≡ record { x = head-word edition-one (e .right); by = from + 8; m = size (e .left) }
+  found-right : is-unknown (e .left) ≡ false → found ≡ record { x = head-word edition-one (e .right); by = from + HEADER; m = size (e .left) }
   unfolding subject-in subject-by
   found-right u =
       let at : getD (words edition-one (e .left) ++ words edition-one (e .right)) (size (e .left)) 0 ≡ head-word edition-one (e .right) =

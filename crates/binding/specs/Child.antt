@@ -7,7 +7,8 @@ use native.Mathlib.Omega.{arith}
 use lib.ListN.{length, length-append}
 use Rattle.room.specs.Room.{seg, length-seg, seg-append, seg-zero}
 use Rattle.room.specs.Replaced.{replaced, replaced-append}
-use Rattle.terms.specs.Bounds.{edition-one, edition-one-unknowns-first}
+use Rattle.room.specs.Layout.{HEADER}
+use Rattle.terms.specs.Bounds.{edition-one, edition-one-unknowns-first, FIRST-UNKNOWN}
 use Rattle.terms.specs.Kind.{Worded}
 use Rattle.terms.specs.Lists.{All}
 use Rattle.terms.specs.Term.{Term, words}
@@ -36,66 +37,66 @@ pub record Stands (l : List ℕ) (by m : ℕ) (t : Term) : Type 0 where
   pub stands : seg l by m ≡ words edition-one t
 
 module _ {arities : List ℕ} {k : ℕ} (worded : Worded edition-one arities k) {r₀ : List ℕ} {rest : Rest} {st : State} (R : Rested edition-one r₀ rest st)
-    (formed : All (λ n. Formed arities k (n .value)) (st .pile)) {by m : ℕ} {t : Term} (value : Stands r₀ by m t) {x : ℕ} (h : x < 1000) where
+    (formed : All (λ n. Formed arities k (n .value)) (st .pile)) {by m : ℕ} {t : Term} (value : Stands r₀ by m t) {x : ℕ} (h : x < FIRST-UNKNOWN) where
   abbrev put-for : List ℕ → List ℕ
-  put-for ws = replaced (1000 + x) (words edition-one t) ws
+  put-for ws = replaced (FIRST-UNKNOWN + x) (words edition-one t) ws
 
-  pending-piece-is : pending-piece edition-one arities r₀ rest (1000 + x) by m
+  pending-piece-is : pending-piece edition-one arities r₀ rest (FIRST-UNKNOWN + x) by m
       ≡ put-for (pending-words edition-one (st .pending)) ++ put-for (pile-words edition-one (entries x (st .pile)))
   unfolding pending-piece edition-one chosen
   pending-piece-is = rw (value .stands, R .pending, R .pile, selection-pile worded x Entries formed)
 
-  pile-piece-is : pile-piece edition-one arities r₀ rest (1000 + x) by m ≡ put-for (pile-words edition-one (others x (st .pile)))
+  pile-piece-is : pile-piece edition-one arities r₀ rest (FIRST-UNKNOWN + x) by m ≡ put-for (pile-words edition-one (others x (st .pile)))
   unfolding pile-piece edition-one chosen
   pile-piece-is = rw (value .stands, R .pile, selection-pile worded x Others formed)
 
-  last-piece-is : last-piece r₀ rest (1000 + x) by m ≡ binding-words edition-one (st .bindings) ++ (x ∷ words edition-one t)
+  last-piece-is : last-piece r₀ rest (FIRST-UNKNOWN + x) by m ≡ binding-words edition-one (st .bindings) ++ (x ∷ words edition-one t)
   unfolding last-piece
-  last-piece-is = let e : 1000 + x - 1000 ≡ x = omega arith in rw (value .stands, R .bound, e)
+  last-piece-is = let e : FIRST-UNKNOWN + x - FIRST-UNKNOWN ≡ x = omega arith in rw (value .stands, R .bound, e)
 
-  module _ {to written lent next : ℕ} (P : FinishParts r₀ rest by m to written lent (1000 + x) next) (ds : List Equation)
-      (new : seg r₀ (to + 8) written ≡ put-for (pending-words edition-one ds)) where
+  module _ {to written lent next : ℕ} (P : FinishParts r₀ rest by m to written lent (FIRST-UNKNOWN + x) next) (ds : List Equation)
+      (new : seg r₀ (to + HEADER) written ≡ put-for (pending-words edition-one ds)) where
     abbrev child : State
     child = bound-state x t (ahead ds next st)
 
     -- the child's pending equations, those that are written and the piece
-    pending-is : put-for (pending-words edition-one ds) ++ pending-piece edition-one arities r₀ rest (1000 + x) by m ≡ pending-words edition-one (child .pending)
+    pending-is : put-for (pending-words edition-one ds) ++ pending-piece edition-one arities r₀ rest (FIRST-UNKNOWN + x) by m ≡ pending-words edition-one (child .pending)
     unfolding bound-state ahead edition-one
     pending-is =
         rw pending-piece-is
         (sym (append-assoc (put-for (pending-words edition-one ds)) (put-for (pending-words edition-one (st .pending))) (put-for (pile-words edition-one (entries x (st .pile)))))
         ∙ rw (
-          ← replaced-append (1000 + x) (words edition-one t) (pending-words edition-one ds) (pending-words edition-one (st .pending)),
+          ← replaced-append (FIRST-UNKNOWN + x) (words edition-one t) (pending-words edition-one ds) (pending-words edition-one (st .pending)),
           ← pending-append edition-one ds (st .pending),
           replaced-pending edition-one-unknowns-first h t (ds ++ st .pending),
           replaced-entries edition-one-unknowns-first h t (st .pile),
         )
         (sym (pending-append edition-one (map (replace-in x t) (ds ++ st .pending)) (map (released x t) (entries x (st .pile))))))
 
-    pile-is : pile-piece edition-one arities r₀ rest (1000 + x) by m ≡ pile-words edition-one (child .pile)
+    pile-is : pile-piece edition-one arities r₀ rest (FIRST-UNKNOWN + x) by m ≡ pile-words edition-one (child .pile)
     unfolding bound-state ahead edition-one
     pile-is = pile-piece-is ∙ replaced-others edition-one-unknowns-first h t (st .pile)
 
-    bindings-is : last-piece r₀ rest (1000 + x) by m ≡ binding-words edition-one (child .bindings)
+    bindings-is : last-piece r₀ rest (FIRST-UNKNOWN + x) by m ≡ binding-words edition-one (child .bindings)
     unfolding bound-state ahead binding-words
     bindings-is = last-piece-is ∙ sym (bindings-append edition-one (st .bindings) (record { name = x; value = t } ∷ []) ∙ rw append-nil)
 
-    body-is : put-for (pending-words edition-one ds) ++ bound-piece edition-one arities r₀ rest (1000 + x) by m ≡ state-words edition-one child
+    body-is : put-for (pending-words edition-one ds) ++ bound-piece edition-one arities r₀ rest (FIRST-UNKNOWN + x) by m ≡ state-words edition-one child
     unfolding bound-piece state-words
     body-is =
-        sym (append-assoc (put-for (pending-words edition-one ds)) (pending-piece edition-one arities r₀ rest (1000 + x) by m) (pile-piece edition-one arities r₀ rest (1000 + x) by m ++ last-piece r₀ rest (1000 + x) by m))
+        sym (append-assoc (put-for (pending-words edition-one ds)) (pending-piece edition-one arities r₀ rest (FIRST-UNKNOWN + x) by m) (pile-piece edition-one arities r₀ rest (FIRST-UNKNOWN + x) by m ++ last-piece r₀ rest (FIRST-UNKNOWN + x) by m))
         ∙ rw (pending-is, pile-is, bindings-is)
 
-    header-is : header-of (bound-header rest (written + length (pending-piece edition-one arities r₀ rest (1000 + x) by m)) (length (pile-piece edition-one arities r₀ rest (1000 + x) by m)) m next)
+    header-is : header-of (bound-header rest (written + length (pending-piece edition-one arities r₀ rest (FIRST-UNKNOWN + x) by m)) (length (pile-piece edition-one arities r₀ rest (FIRST-UNKNOWN + x) by m)) m next)
         ≡ header-of (header-for child)
     unfolding header-of bound-header header-for state-size bound-state ahead
     header-is =
-        let A : List ℕ = pending-piece edition-one arities r₀ rest (1000 + x) by m in
+        let A : List ℕ = pending-piece edition-one arities r₀ rest (FIRST-UNKNOWN + x) by m in
         let N : List ℕ = put-for (pending-words edition-one ds) in
         let B : List ℕ = binding-words edition-one (st .bindings) in
         let pending : written + length A ≡ size-equations (child .pending) =
-        omega (arith, length-append N A, ap length new, length-seg r₀ (to + 8) written (omega (arith, P .parts .to-within, P .written-within)), ap length pending-is, length-pending edition-one (child .pending)) in
-        let pile : length (pile-piece edition-one arities r₀ rest (1000 + x) by m) ≡ size-named (child .pile) = ap length pile-is ∙ length-pile edition-one (child .pile) in
+        omega (arith, length-append N A, ap length new, length-seg r₀ (to + HEADER) written (omega (arith, P .parts .to-within, P .written-within)), ap length pending-is, length-pending edition-one (child .pending)) in
+        let pile : length (pile-piece edition-one arities r₀ rest (FIRST-UNKNOWN + x) by m) ≡ size-named (child .pile) = ap length pile-is ∙ length-pile edition-one (child .pile) in
         let bound : rest .bound + 1 + m ≡ size-named (child .bindings) =
         omega (
           arith,
@@ -113,8 +114,8 @@ module _ {arities : List ℕ} {k : ℕ} (worded : Worded edition-one arities k) 
         rw (pending, pile, bound, bindings)
 
     pub finish-makes : {a : Made} {r : List ℕ}
-        → Finished r₀ to written lent (bound-piece edition-one arities r₀ rest (1000 + x) by m)
-        (header-of (bound-header rest (written + length (pending-piece edition-one arities r₀ rest (1000 + x) by m)) (length (pile-piece edition-one arities r₀ rest (1000 + x) by m)) m next)) a r
+        → Finished r₀ to written lent (bound-piece edition-one arities r₀ rest (FIRST-UNKNOWN + x) by m)
+        (header-of (bound-header rest (written + length (pending-piece edition-one arities r₀ rest (FIRST-UNKNOWN + x) by m)) (length (pile-piece edition-one arities r₀ rest (FIRST-UNKNOWN + x) by m)) m next)) a r
         → next ≤ edition-one .path-unknowns → Makes edition-one r₀ to lent (live child) a r
     unfolding bound-state ahead
     finish-makes F few =
@@ -122,7 +123,7 @@ module _ {arities : List ℕ} {k : ℕ} (worded : Worded edition-one arities k) 
 
   -- the entries of x are dropped, and nothing is pending
 
-  module _ {to lent next : ℕ} (P : FinishParts r₀ rest by m to 0 lent (1000 + x) next) where
+  module _ {to lent next : ℕ} (P : FinishParts r₀ rest by m to 0 lent (FIRST-UNKNOWN + x) next) where
     abbrev heir : State
     heir = record {
       pending = [];
@@ -131,23 +132,23 @@ module _ {arities : List ℕ} {k : ℕ} (worded : Worded edition-one arities k) 
       next = next;
     }
 
-    heir-pile : pile-piece edition-one arities r₀ rest (1000 + x) by m ≡ pile-words edition-one (heir .pile)
+    heir-pile : pile-piece edition-one arities r₀ rest (FIRST-UNKNOWN + x) by m ≡ pile-words edition-one (heir .pile)
     unfolding edition-one
     heir-pile = pile-piece-is ∙ replaced-others edition-one-unknowns-first h t (st .pile)
 
-    heir-bindings : last-piece r₀ rest (1000 + x) by m ≡ binding-words edition-one (heir .bindings)
+    heir-bindings : last-piece r₀ rest (FIRST-UNKNOWN + x) by m ≡ binding-words edition-one (heir .bindings)
     unfolding binding-words
     heir-bindings = last-piece-is ∙ sym (bindings-append edition-one (st .bindings) (record { name = x; value = t } ∷ []) ∙ rw append-nil)
 
-    heir-body : pile-piece edition-one arities r₀ rest (1000 + x) by m ++ last-piece r₀ rest (1000 + x) by m ≡ state-words edition-one heir
+    heir-body : pile-piece edition-one arities r₀ rest (FIRST-UNKNOWN + x) by m ++ last-piece r₀ rest (FIRST-UNKNOWN + x) by m ≡ state-words edition-one heir
     unfolding state-words pending-words row sides
     heir-body = rw (heir-pile, heir-bindings)
 
-    heir-header : header-of (bound-header rest 0 (length (pile-piece edition-one arities r₀ rest (1000 + x) by m)) m next) ≡ header-of (header-for heir)
+    heir-header : header-of (bound-header rest 0 (length (pile-piece edition-one arities r₀ rest (FIRST-UNKNOWN + x) by m)) m next) ≡ header-of (header-for heir)
     unfolding header-of bound-header header-for state-size size-equations
     heir-header =
         let B : List ℕ = binding-words edition-one (st .bindings) in
-        let pile : length (pile-piece edition-one arities r₀ rest (1000 + x) by m) ≡ size-named (heir .pile) = ap length heir-pile ∙ length-pile edition-one (heir .pile) in
+        let pile : length (pile-piece edition-one arities r₀ rest (FIRST-UNKNOWN + x) by m) ≡ size-named (heir .pile) = ap length heir-pile ∙ length-pile edition-one (heir .pile) in
         let bound : rest .bound + 1 + m ≡ size-named (heir .bindings) =
         omega (
           arith,
@@ -165,11 +166,11 @@ module _ {arities : List ℕ} {k : ℕ} (worded : Worded edition-one arities k) 
         rw (pile, bound, bindings)
 
     pub finish-pile-makes : {a : Made} {r : List ℕ}
-        → Finished r₀ to 0 lent (pile-piece edition-one arities r₀ rest (1000 + x) by m ++ last-piece r₀ rest (1000 + x) by m)
-        (header-of (bound-header rest 0 (length (pile-piece edition-one arities r₀ rest (1000 + x) by m)) m next)) a r
+        → Finished r₀ to 0 lent (pile-piece edition-one arities r₀ rest (FIRST-UNKNOWN + x) by m ++ last-piece r₀ rest (FIRST-UNKNOWN + x) by m)
+        (header-of (bound-header rest 0 (length (pile-piece edition-one arities r₀ rest (FIRST-UNKNOWN + x) by m)) m next)) a r
         → next ≤ edition-one .path-unknowns → Makes edition-one r₀ to lent (live heir) a r
     finish-pile-makes F few =
-        finished-makes edition-one heir [] (rw heir-header at F) (omega (arith, P .parts .to-within)) (P .written-within) (seg-zero r₀ (to + 8)) heir-body few
+        finished-makes edition-one heir [] (rw heir-header at F) (omega (arith, P .parts .to-within)) (P .written-within) (seg-zero r₀ (to + HEADER)) heir-body few
 
 -- ---- nothing is bound
 
@@ -182,7 +183,7 @@ pub record Piled (l : List ℕ) (by m : ℕ) (ns : List Named) : Type 0 where
   pub piled : seg l by m ≡ pile-words edition-one ns
 
 module _ {r₀ : List ℕ} {rest : Rest} {st : State} (R : Rested edition-one r₀ rest st) {by m : ℕ} {ms : List Named} (entry : Piled r₀ by m ms)
-    {to written lent next : ℕ} (P : FinishParts r₀ rest by m to written lent 1000 next) (ds : List Equation) (new : seg r₀ (to + 8) written ≡ pending-words edition-one ds) where
+    {to written lent next : ℕ} (P : FinishParts r₀ rest by m to written lent FIRST-UNKNOWN next) (ds : List Equation) (new : seg r₀ (to + HEADER) written ≡ pending-words edition-one ds) where
   abbrev next-state : State
   next-state = extended ds ms next st
 
@@ -202,7 +203,7 @@ module _ {r₀ : List ℕ} {rest : Rest} {st : State} (R : Rested edition-one r�
   kept-header-is =
       let fits : rest .at + (rest .pending + rest .pile + rest .bound) ≤ length r₀ = P .parts .rest-within in
       let there : written ≡ length (pending-words edition-one ds) =
-      omega (arith, ap length new, length-seg r₀ (to + 8) written (omega (arith, P .parts .to-within, P .written-within))) in
+      omega (arith, ap length new, length-seg r₀ (to + HEADER) written (omega (arith, P .parts .to-within, P .written-within))) in
       let before : rest .pending ≡ length (pending-words edition-one (st .pending)) = omega (arith, ap length (R .pending), length-seg r₀ (rest .at) (rest .pending) (omega arith)) in
       let old : rest .pile ≡ length (pile-words edition-one (st .pile)) = omega (arith, ap length (R .pile), length-seg r₀ (rest .at + rest .pending) (rest .pile) (omega arith)) in
       let more : m ≡ length (pile-words edition-one ms) = omega (arith, ap length (entry .piled), length-seg r₀ by m (P .parts .by-within)) in

@@ -1,6 +1,6 @@
 // A binding of x to a term, whose words stand somewhere in the room: what a child's row has after its new equations.
 ghost use Prim.Native.Nat.{_+_, _-_, _≤_};
-ghost use Rattle.terms.specs.Bounds.{edition-one};
+ghost use Rattle.terms.specs.Bounds.{edition-one, FIRST-UNKNOWN};
 ghost use Rattle.rows.specs.Wrote.{Wrote};
 ghost use mathlib.Core.List.{_++_};
 ghost use lib.ListN.{length};
@@ -11,7 +11,7 @@ ghost use Rattle.rows.specs.Finished.{Finished, bound-header};
 use crate::pile::replace_others;
 use crate::pile::replace_released;
 use replace::Copied;
-use rows::header::HEADER;
+use room::layout::HEADER;
 use rows::header::Header;
 use rows::header::seal;
 use rows::parts::Rest;
@@ -65,7 +65,7 @@ fn bind_last(
     to: usize,
     capacity: usize,
 ) -> Copied
-    requires { ⌜ BindParts (now room) rest by m to capacity × 1000 ≤ x ⌝ }
+    requires { ⌜ BindParts (now room) rest by m to capacity × FIRST-UNKNOWN ≤ x ⌝ }
     ensures { λ r. ⌜ Wrote (now (room .entry)) to capacity (last-piece (now (room .entry)) rest x by m) r (now (room .exit)) ⌝ }
 {
     let at = rest.at + rest.pending + rest.pile;

@@ -1,4 +1,5 @@
 // A step that binds nothing: the rest of the parent's row as it is, with one entry more at the end of its pile, or none.
+ghost use Rattle.terms.specs.Bounds.{FIRST-UNKNOWN};
 ghost use Rattle.rows.specs.Wrote.{Wrote};
 ghost use Rattle.rows.specs.Bind.{BindParts, FinishParts};
 ghost use Rattle.rows.specs.Header.{header-of};
@@ -6,7 +7,7 @@ ghost use Rattle.rows.specs.Made.{of-sized};
 ghost use Rattle.rows.specs.Finished.{Finished};
 ghost use Rattle.binding.specs.Keep.{kept-piece, kept-header};
 use replace::Copied;
-use rows::header::HEADER;
+use room::layout::HEADER;
 use rows::header::Header;
 use rows::header::seal;
 use rows::parts::Rest;
@@ -47,7 +48,7 @@ pub fn keep(
     size: usize,
     next: usize,
 ) -> Sized
-    requires { ⌜ FinishParts (now room) rest by m to written size 1000 next ⌝ }
+    requires { ⌜ FinishParts (now room) rest by m to written size FIRST-UNKNOWN next ⌝ }
     ensures { λ r. ⌜ Finished (now (room .entry)) to written size (kept-piece (now (room .entry)) rest by m) (header-of (kept-header rest written m next)) (of-sized r) (now (room .exit)) ⌝ }
 {
     match keep_rest(room, rest, by, m, to + HEADER + written, size - written) {

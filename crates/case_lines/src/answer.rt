@@ -1,13 +1,13 @@
 // What an entry answered, and the line of its result.
-use fields::hex::put_hex;
-use fields::line::field;
-use fields::line::first_bytes;
-use fields::line::first_words;
-use fields::list::put_arities;
-use fields::list::put_words;
-use pen::put::put_byte;
-use pen::put::put_bytes;
-use pen::put::put_number;
+use case_fields::hex::put_hex;
+use case_fields::line::field;
+use case_fields::line::first_bytes;
+use case_fields::line::first_words;
+use case_fields::list::put_arities;
+use case_fields::list::put_words;
+use word_writer::put::put_byte;
+use word_writer::put::put_bytes;
+use word_writer::put::put_number;
 
 pub enum Answer {
     // a question that was read: its unknowns, functors, equations and words

@@ -4,11 +4,11 @@ use crate::kind::Kind;
 use crate::kind::form_of;
 use crate::kind::kind_of;
 use crate::numbers::read_numbers;
-use fields::hex::read_hex;
-use fields::line::field;
-use fields::list::Items;
-use fields::list::read_arities;
-use fields::list::read_words;
+use case_fields::hex::read_hex;
+use case_fields::line::field;
+use case_fields::list::Items;
+use case_fields::list::read_arities;
+use case_fields::list::read_words;
 
 // Its kind, the number in each field, and how many items each of its lists has.
 pub struct Case {

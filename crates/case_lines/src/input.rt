@@ -2,7 +2,7 @@
 ghost use Prim.Native.Nat.{_≤_};
 ghost use lib.ListN.{length};
 use bytes::scan::find;
-use fields::line::first_bytes;
+use case_fields::line::first_bytes;
 use libc::STDIN_FILENO;
 
 const LINE_FEED: u8 = 10;

@@ -1,7 +1,7 @@
 // The kinds of cases, and where the lists of each stand in its line. A further kind is a variant, a name and a form here, and an arm in `cases`.
+use case_fields::line::field;
+use case_fields::line::tabs;
 use check::same;
-use fields::line::field;
-use fields::line::tabs;
 
 pub enum Kind {
     Text,

@@ -1,5 +1,5 @@
 // The lines of cases and of their results, apart from what the entries do: how a line is taken from standard input and read as a case, and how an answer is
-// written as a result. Crate `fields` has the single fields.
+// written as a result. Crate `case_fields` has the single fields.
 //
 //   buffers  what a driver holds
 //   input    the next line

@@ -13,6 +13,8 @@
 // numbers, of which AC, WC, CAP, SPACE and ROOM say how much is lent. A line that is no case ends the program, with a word on standard error.
 //
 // Crate `case_lines` reads the lines and writes the results; `entry_cases` and `run_cases` have the kinds.
+use case_fields::line::first_bytes;
+use case_fields::line::first_words;
 use case_lines::answer::Answer;
 use case_lines::answer::put_answer;
 use case_lines::buffers::Bytes;
@@ -26,12 +28,10 @@ use case_lines::input::line_of;
 use case_lines::input::next_line;
 use case_lines::kind::Kind;
 use entry_cases::entry_answer;
-use fields::line::first_bytes;
-use fields::line::first_words;
 use libc::STDERR_FILENO;
 use libc::STDOUT_FILENO;
-use pen::put::put_byte;
 use run_cases::run_answer;
+use word_writer::put::put_byte;
 
 const LINE_FEED: u8 = 10;
 

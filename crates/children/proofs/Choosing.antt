@@ -5,6 +5,7 @@ use mathlib.Core.List.{List}
 use native.Mathlib.Omega.{arith}
 use lib.ListN.{length, take, drop}
 use Rattle.room.specs.Room.{length-seg}
+use Rattle.room.specs.Layout.{HEADER}
 use Rattle.terms.specs.Bounds.{edition-one}
 use Rattle.terms.specs.Term.{size}
 use Rattle.search.specs.State.{State, size-equations}
@@ -34,22 +35,22 @@ module _ {arities l : List ℕ} {at number lent scratch most : ℕ} {st : State}
   pub nothing-pending : h .pending ≡ 0 → Quiet arities l at h number lent scratch most st
   nothing-pending z = record { ready = R; header-is = header-read R read; quiet = no-equation (st .pending) (sym pending-is ∙ z) }
 
-  pub last-within : at + 8 + h .pending ≤ scratch
+  pub last-within : at + HEADER + h .pending ≤ scratch
   last-within = omega (arith, pending-within R, pending-is)
 
-  pub lent-small : length (take (at + 8 + h .pending - (at + 8)) (drop (at + 8) l)) < 2 ^ 32
+  pub lent-small : length (take (at + HEADER + h .pending - (at + HEADER)) (drop (at + HEADER) l)) < 2 ^ 32
   lent-small =
       let s = last-within in
-      rw (lent-part l (at + 8) (h .pending), length-seg l (at + 8) (h .pending) (omega (arith, R .scratch-rows))) (omega (arith, R .scratch-rows, R .small))
+      rw (lent-part l (at + HEADER) (h .pending), length-seg l (at + HEADER) (h .pending) (omega (arith, R .scratch-rows))) (omega (arith, R .scratch-rows, R .small))
 
-  module _ (some : h .pending ≡ 0 → ⊥) {f : First} (found : f ≡ first-in edition-one arities (take (at + 8 + h .pending - (at + 8)) (drop (at + 8) l))) where
+  module _ (some : h .pending ≡ 0 → ⊥) {f : First} (found : f ≡ first-in edition-one arities (take (at + HEADER + h .pending - (at + HEADER)) (drop (at + HEADER) l))) where
     pub begins : Begins (st .pending)
     begins = some-equation (st .pending) (λ z. some (pending-is ∙ z))
 
     first-is : f
         ≡ record { step = classify (begins .first .left) (begins .first .right); right = size (begins .first .left); end = size (begins .first .left) + size (begins .first .right) }
     first-is =
-        found ∙ ap (first-in edition-one arities) (lent-part l (at + 8) (h .pending) ∙ rw pending-is) ∙ first-found (R .holds) (begins .cut) (R .sound)
+        found ∙ ap (first-in edition-one arities) (lent-part l (at + HEADER) (h .pending) ∙ rw pending-is) ∙ first-found (R .holds) (begins .cut) (R .sound)
 
     pub rest-asked : HeaderParts at h (f .end)
     rest-asked = rw (header-read R read, first-is) (rest-parts R _ (omega (arith, first-size st (begins .cut))))

@@ -5,6 +5,7 @@ use mathlib.Core.List.{List, [], _∷_, _++_}
 use native.Mathlib.Omega.{arith}
 use lib.ListN.{getD}
 use Rattle.room.specs.Room.{getD-seg}
+use Rattle.room.specs.Layout.{HEADER}
 use Rattle.terms.specs.Bounds.{edition-one}
 use Rattle.terms.specs.Term.{Term, with, words}
 use Rattle.terms.specs.Answers.{Named}
@@ -32,14 +33,14 @@ begins-marked : {t m r : Term} (ws : List ℕ) → t ≡ with m r → getD (word
 unfolding words
 begins-marked ws e = rw e
 
-module _ {arities l : List ℕ} {at number lent scratch most : ℕ} {st : State} (R : Ready arities l at number lent scratch most st) (later : 0 < number) (unmarked : getD l (at + 8) 0 ≡ 1 → ⊥) where
+module _ {arities l : List ℕ} {at number lent scratch most : ℕ} {st : State} (R : Ready arities l at number lent scratch most st) (later : 0 < number) (unmarked : getD l (at + HEADER) 0 ≡ 1 → ⊥) where
   no-split : {e : Equation} {es : List Equation} → st .pending ≡ e ∷ es → (k : Tails) → classify (e .left) (e .right) ≡ Split k → ⊥
   no-split {e} {es} cut k p =
       let v : Stepped (e .left) (e .right) (Split k) = rw p at (stepped (e .left) (e .right)) in
-      let place : at + 8 + 0 ≡ at + 8 = omega arith in
+      let place : at + HEADER + 0 ≡ at + HEADER = omega arith in
       let some : 0 < size-equations (st .pending) = omega (arith, first-size st cut, size-positive (e .left)) in
       unmarked
-      (ap (λ (j : ℕ). getD l j 0) (sym place) ∙ sym (getD-seg l (at + 8) (size-equations (st .pending)) 0 some)
+      (ap (λ (j : ℕ). getD l j 0) (sym place) ∙ sym (getD-seg l (at + HEADER) (size-equations (st .pending)) 0 some)
       ∙ ap (λ (ws : List ℕ). getD ws 0 0) (first-words (R .holds) cut) ∙ begins-marked _ (left-member v .1 .1))
 
   by-pile : (ns : List Named) → st .pending ≡ [] → st .pile ≡ ns → Child l at number lent most st (Spent 0) l

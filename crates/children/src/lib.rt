@@ -16,10 +16,10 @@ use openings::open_split::pick_on;
 use plain_steps::plain::Forced;
 use plain_steps::plain::Way;
 use plain_steps::plain::way_of;
+use room::layout::HEADER;
 use rows::first::first_of;
 use rows::first::read_header;
 use rows::first::rest_of;
-use rows::header::HEADER;
 
 // The same, by the kind of the row: nothing is pending, or its first equation is a split, or it leaves no choice.
 fn find_child(

@@ -9,7 +9,7 @@ use lib.ListN.{length, getD, set}
 use lib.Seq.{getD-at, take-at}
 use Rattle.room.specs.Room.{seg, put, length-put, put-nil, put-put, put-seg, set-put-before, take-seg, getD-seg}
 use Rattle.room.specs.Parts.{earlier, getD-put}
-use Rattle.turns.specs.ChoiceNumbers.{choices, number, Digits, no-digit, digit, number-append, digits-append}
+use Rattle.search_laws.specs.ChoiceNumbers.{choices, number, Digits, no-digit, digit, number-append, digits-append}
 use Rattle.choices.specs.Digits.{copies, Decoded, Advanced, DigitParts, PickParts, copies-append, length-copies, length-digits}
 
 -- the digits from place i on are written

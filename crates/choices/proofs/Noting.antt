@@ -8,7 +8,7 @@ use Rattle.room.specs.Room.{seg, put, length-put, put-nil, put-more, seg-zero, 
 use Rattle.room.specs.Parts.{apart-part, getD-put}
 use Rattle.terms.specs.Bounds.{edition-one}
 use Rattle.terms.specs.Kind.{takes}
-use Rattle.choices.specs.Places.{noted, noted-mark, noted-kernel, noted-out, noted-on, NoteParts}
+use Rattle.choices.specs.MemberPlaces.{noted, noted-mark, noted-kernel, noted-out, noted-on, NoteParts}
 
 pub record Noting (arities r₀ : List ℕ) (body first end to : ℕ) (r : List ℕ) (place due n : ℕ) : Type 0 where
   pub parts : NoteParts r₀ body first end to

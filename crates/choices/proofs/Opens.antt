@@ -7,20 +7,21 @@ use lib.ListN.{length, drop, getD}
 use lib.Seq.{drop-at}
 use Rattle.room.specs.Room.{seg, put, length-put, drop-seg, seg-put-same}
 use Rattle.room.specs.Parts.{earlier, seg-put}
+use Rattle.room.specs.Layout.{HEADER, right-row}
 use Rattle.terms.specs.Bounds.{edition-one}
 use Rattle.terms.specs.Term.{Term, words, size, members}
 use Rattle.terms.specs.Flat.{length-words}
 use Rattle.rows.specs.Stripped.{kernel-place}
-use Rattle.choices.specs.Places.{places, noted, noted-words, NoteParts}
+use Rattle.choices.specs.MemberPlaces.{places, noted, noted-words, NoteParts}
 use Rattle.choices.specs.GatheredPicks.{at-of, at-last, length-places}
 use Rattle.choices.specs.OpenParent.{few-members}
 use Rattle.choices.specs.Open.{Open, OpenSides}
 
 module _ {arities l : List ℕ} {from right end lent scratch k : ℕ} {t u : Term} (O : Open arities l from right end lent scratch k t u) where
   abbrev us : ℕ
-  us = scratch + (lent + 8)
+  us = right-row lent scratch
 
-  pub first-parts : NoteParts l (from + 8) 0 end scratch
+  pub first-parts : NoteParts l (from + HEADER) 0 end scratch
   first-parts = record {
     body-within = omega (arith, O .row, O .space, O .fits);
     to-within = omega (arith, O .space, O .fits);
@@ -30,14 +31,14 @@ module _ {arities l : List ℕ} {from right end lent scratch k : ℕ} {t u : Ter
     small = O .small;
   }
 
-  t-noted : noted edition-one arities (seg l (from + 8 + 0) (end - 0)) 0 0 ≡ places t 0
+  t-noted : noted edition-one arities (seg l (from + HEADER + 0) (end - 0)) 0 0 ≡ places t 0
   t-noted =
-      let e : from + 8 + 0 ≡ from + 8 = omega arith in
+      let e : from + HEADER + 0 ≡ from + HEADER = omega arith in
       let f : end - 0 ≡ end = omega arith in
       rw (e, f, O .stands) (noted-words (O .worded) (O .formed-t) (words edition-one u) 0)
 
-  module _ (n : ℕ) {r : List ℕ} (n-told : n + 1 ≡ length (noted edition-one arities (seg l (from + 8 + 0) (end - 0)) 0 0))
-      (n-room : r ≡ put l scratch (noted edition-one arities (seg l (from + 8 + 0) (end - 0)) 0 0)) where
+  module _ (n : ℕ) {r : List ℕ} (n-told : n + 1 ≡ length (noted edition-one arities (seg l (from + HEADER + 0) (end - 0)) 0 0))
+      (n-room : r ≡ put l scratch (noted edition-one arities (seg l (from + HEADER + 0) (end - 0)) 0 0)) where
     there : r ≡ put l scratch (places t 0)
     there = n-room ∙ ap (put l scratch) t-noted
 
@@ -47,7 +48,7 @@ module _ {arities l : List ℕ} {from right end lent scratch k : ℕ} {t u : Ter
     pub long : length r ≡ length l
     long = ap length there ∙ length-put l scratch (places t 0)
 
-    pub second-parts : NoteParts r (from + 8) right end us
+    pub second-parts : NoteParts r (from + HEADER) right end us
     second-parts = record {
       body-within = rw long (omega (arith, O .row, O .space, O .fits));
       to-within = rw long (omega (arith, O .space, O .fits));
@@ -57,18 +58,18 @@ module _ {arities l : List ℕ} {from right end lent scratch k : ℕ} {t u : Ter
       small = rw long (O .small);
     }
 
-    u-noted : noted edition-one arities (seg r (from + 8 + right) (end - right)) 0 right ≡ places u (size t)
+    u-noted : noted edition-one arities (seg r (from + HEADER + right) (end - right)) 0 right ≡ places u (size t)
     u-noted =
-        let same : seg r (from + 8) end ≡ seg l (from + 8) end = rw there (seg-put (places t 0) l (earlier (omega (arith, O .row, O .fits)))) in
-        let back : seg r (from + 8 + right) (end - right) ≡ words edition-one u =
-        sym (drop-seg r (from + 8) end right (omega (arith, O .right-is, O .end-is))) ∙ ap (drop right) (same ∙ O .stands)
+        let same : seg r (from + HEADER) end ≡ seg l (from + HEADER) end = rw there (seg-put (places t 0) l (earlier (omega (arith, O .row, O .fits)))) in
+        let back : seg r (from + HEADER + right) (end - right) ≡ words edition-one u =
+        sym (drop-seg r (from + HEADER) end right (omega (arith, O .right-is, O .end-is))) ∙ ap (drop right) (same ∙ O .stands)
         ∙ drop-at (words edition-one t) (words edition-one u) right (length-words edition-one t ∙ sym (O .right-is)) in
         let w : noted edition-one arities (words edition-one u) 0 right ≡ places u right =
         ap (λ (ws : List ℕ). noted edition-one arities ws 0 right) (sym (append-nil (words edition-one u))) ∙ noted-words (O .worded) (O .formed-u) [] right in
         ap (λ (ws : List ℕ). noted edition-one arities ws 0 right) back ∙ w ∙ ap (places u) (O .right-is)
 
-    module _ (m : ℕ) {q : List ℕ} (m-told : m + 1 ≡ length (noted edition-one arities (seg r (from + 8 + right) (end - right)) 0 right))
-        (m-room : q ≡ put r us (noted edition-one arities (seg r (from + 8 + right) (end - right)) 0 right)) where
+    module _ (m : ℕ) {q : List ℕ} (m-told : m + 1 ≡ length (noted edition-one arities (seg r (from + HEADER + right) (end - right)) 0 right))
+        (m-room : q ≡ put r us (noted edition-one arities (seg r (from + HEADER + right) (end - right)) 0 right)) where
       both-there : q ≡ put (put l scratch (places t 0)) us (places u (size t))
       both-there = m-room ∙ rw (u-noted, there)
 

@@ -8,7 +8,7 @@ use native.Mathlib.Nat.{zero-add, suc-add, zero-mul, suc-mul, add-mul, mul-assoc
 use lib.ListN.{length}
 use Rattle.room.specs.Room.{seg, put, Within, length-put, put-put, put-seg, seg-append}
 use Rattle.room.specs.Parts.{Apart, earlier, put-comm, seg-put}
-use Rattle.turns.specs.ChoiceNumbers.{choices, number, Digits, no-digit, digit, choices-append, number-append, digits-append}
+use Rattle.search_laws.specs.ChoiceNumbers.{choices, number, Digits, no-digit, digit, choices-append, number-append, digits-append}
 
 -- n digits of one radix
 unfoldable pub copies : ℕ → ℕ → List ℕ

@@ -17,10 +17,10 @@ use Rattle.terms.specs.Flat.{length-words}
 use Rattle.terms.specs.Formed.{Equation, sides, row}
 use Rattle.terms.specs.Lists.{cases}
 use Rattle.rows.specs.Stripped.{kernel-place}
-use Rattle.rows.specs.Members.{member-words}
-use Rattle.turns.specs.Picking.{equations-by, joining-by}
+use Rattle.rows.specs.MemberWords.{member-words}
+use Rattle.search_laws.specs.Picking.{equations-by, joining-by}
 use Rattle.choices.specs.Gathered.{gathered, member-piece, marked-piece, joins-piece, meets-piece}
-use Rattle.choices.specs.Places.{places}
+use Rattle.choices.specs.MemberPlaces.{places}
 use Rattle.search.specs.StateWords.{pending-words}
 
 -- these words stand at a place

@@ -2,5 +2,5 @@ pub mod Digits
 pub mod Gathered
 pub mod Open
 pub mod OpenParent
-pub mod Places
+pub mod MemberPlaces
 pub mod GatheredPicks

@@ -4,7 +4,7 @@
 //     picks           the picks of a child from its number, and those of the next one
 //     equations       the new equations of a choice of picks
 //
-// In specs/, `Open`, `OpenParent` and `Places` say where everything stands, `Digits` what the picks are, `Gathered` which equations they give.
+// In specs/, `Open`, `OpenParent` and `MemberPlaces` say where everything stands, `Digits` what the picks are, `Gathered` which equations they give.
 
 pub mod equations;
 pub mod members;

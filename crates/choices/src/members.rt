@@ -4,7 +4,7 @@ ghost use Prim.Native.Nat.{_+_, _-_};
 ghost use lib.ListN.{length};
 ghost use Rattle.room.specs.Room.{seg, put};
 ghost use Rattle.terms.specs.Bounds.{edition-one};
-ghost use Rattle.choices.specs.Places.{noted, NoteParts};
+ghost use Rattle.choices.specs.MemberPlaces.{noted, NoteParts};
 use rows::walk::terms_after;
 
 // Notes the places of a set's member marks, and then of its kernel; answers how many members there are. The set begins at the place `first` of the

@@ -1,7 +1,7 @@
 // A split's equation taken apart.
 ghost use Rattle.choices.specs.Open.{OpenParts, SidesOpened};
 use crate::members::note_members;
-use rows::header::HEADER;
+use room::layout::HEADER;
 use rows::walk::wide;
 
 // The numbers of members of its two sides; where the right side begins, and where it ends; where the two tails stand. Places are counted from the

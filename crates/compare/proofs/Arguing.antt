@@ -8,11 +8,11 @@ use lib.ListN.{length, getD}
 use Rattle.terms.specs.Kind.{takes}
 use Rattle.terms.specs.Term.{size}
 use Rattle.laws.specs.Equal.{equal, equal*, kernels-equal}
-use Rattle.places.specs.Places.{Held, valued, Placed, resolved, end}
-use Rattle.places.specs.Classes.{Told, Comparing, ComparingKernels, Same}
-use Rattle.places.specs.Opened.{resolving}
-use Rattle.places.specs.Arguments.{arguments, following, Left, kernel-at, words-differ, words-agree, left-first, left-next, next-inside, argument-smaller, equal-next, equal-none}
-use Rattle.places.specs.Since.{Since, since-start, since-told, told-since}
+use Rattle.term_places.specs.Places.{Held, valued, Placed, resolved, end}
+use Rattle.term_places.specs.Classes.{Told, Comparing, ComparingKernels, Same}
+use Rattle.term_places.specs.Opened.{resolving}
+use Rattle.term_places.specs.Arguments.{arguments, following, Left, kernel-at, words-differ, words-agree, left-first, left-next, next-inside, argument-smaller, equal-next, equal-none}
+use Rattle.term_places.specs.Since.{Since, since-start, since-told, told-since}
 
 pub record Arguing (h : Held) (before labels : List ℕ) (p q x y m : ℕ) : Type 0 where
   pub placed : Placed h

@@ -8,10 +8,10 @@ use lib.ListN.{getD}
 use Rattle.terms.specs.Term.{Term, unknown, empty, with, functor, members, kernel, size}
 use Rattle.terms.specs.Lists.{false-unless}
 use Rattle.laws.specs.Equal.{equal, equal-is, each-in, kernels-equal}
-use Rattle.places.specs.Places.{Held, valued, KernelOf}
-use Rattle.places.specs.Classes.{BothSettled, Settled, Told, some-equals, each-equalled, Comparing, ComparingKernels, Compared, relabelled, Same, EachMeets}
-use Rattle.places.specs.Relabelled.{one-class, one-label, still-together}
-use Rattle.places.specs.Since.{Since, since-start, since-told, told-since}
+use Rattle.term_places.specs.Places.{Held, valued, KernelOf}
+use Rattle.term_places.specs.Classes.{BothSettled, Settled, Told, some-equals, each-equalled, Comparing, ComparingKernels, Compared, relabelled, Same, EachMeets}
+use Rattle.term_places.specs.Relabelled.{one-class, one-label, still-together}
+use Rattle.term_places.specs.Since.{Since, since-start, since-told, told-since}
 
 -- the sentence of SPECIFICATION 2.2
 by-parts : (t u : Term) → equal t u ≡ (kernels-equal (kernel t) (kernel u) && each-in (members t) (members u) && each-equalled (members t) (members u))

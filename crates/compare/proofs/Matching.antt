@@ -9,11 +9,11 @@ use native.Mathlib.Omega.{arith}
 use lib.ListN.{getD}
 use Rattle.terms.specs.Term.{members, size}
 use Rattle.laws.specs.Equal.{each-in}
-use Rattle.places.specs.Places.{Held, valued, Placed, Known, AtMember, Has, member-of, rest-of}
-use Rattle.places.specs.Classes.{Joined, Comparing, Meets, EachMeets}
-use Rattle.places.specs.Opened.{Opened, opened, closed}
-use Rattle.places.specs.Membership.{each-in-open, each-in-closed, member-smaller, rest-smaller, has-open, has-closed}
-use Rattle.places.specs.Since.{Since, since-start, since-told, told-since, label-kept}
+use Rattle.term_places.specs.Places.{Held, valued, Placed, Known, AtMember, Has, member-of, rest-of}
+use Rattle.term_places.specs.Classes.{Joined, Comparing, Meets, EachMeets}
+use Rattle.term_places.specs.Opened.{Opened, opened, closed}
+use Rattle.term_places.specs.Membership.{each-in-open, each-in-closed, member-smaller, rest-smaller, has-open, has-closed}
+use Rattle.term_places.specs.Since.{Since, since-start, since-told, told-since, label-kept}
 use Rattle.compare.proofs.Meeting.{has-inside}
 
 pub record Matching (h : Held) (before labels : List ℕ) (p q x : ℕ) : Type 0 where

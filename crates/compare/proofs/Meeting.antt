@@ -9,11 +9,11 @@ use native.Mathlib.Omega.{arith}
 use lib.ListN.{length, getD}
 use Rattle.terms.specs.Term.{members, size}
 use Rattle.laws.specs.Equal.{equal, is-in}
-use Rattle.places.specs.Places.{Held, valued, Placed, Known, AtMember, Has, first, later, member-of, rest-of}
-use Rattle.places.specs.Classes.{Comparing, Same, Meets}
-use Rattle.places.specs.Opened.{Opened, opened, closed}
-use Rattle.places.specs.Membership.{is-in-open, is-in-closed, member-smaller, rest-smaller, has-open, has-closed}
-use Rattle.places.specs.Since.{Since, since-start, since-told, told-since, label-kept}
+use Rattle.term_places.specs.Places.{Held, valued, Placed, Known, AtMember, Has, first, later, member-of, rest-of}
+use Rattle.term_places.specs.Classes.{Comparing, Same, Meets}
+use Rattle.term_places.specs.Opened.{Opened, opened, closed}
+use Rattle.term_places.specs.Membership.{is-in-open, is-in-closed, member-smaller, rest-smaller, has-open, has-closed}
+use Rattle.term_places.specs.Since.{Since, since-start, since-told, told-since, label-kept}
 
 pub has-inside : {h : Held} {p z : ℕ} → Placed h → p < length (h .words) → Has h p z → z < length (h .words)
 has-inside {p = p} placed i (first e) = opened placed p i e .member .inside

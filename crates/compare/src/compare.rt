@@ -1,15 +1,15 @@
 // The comparison of the terms at two places, values put in. It recurses into members and arguments; the sum of the two terms' symbols falls.
 // A pair found equal gets one label, so that it is not compared again; two settled places with different labels differ.
 ghost use Rattle.laws.specs.Equal.{equal, kernels-equal};
-ghost use Rattle.places.specs.Places.{held, valued};
-ghost use Rattle.places.specs.Classes.{Comparing, ComparingKernels, Settled, Told, Same, Meets, EachMeets};
-use places::classes::both_settled;
-use places::classes::join;
-use places::places::kernel;
-use places::places::resolve;
-use places::places::rest;
-use places::places::term_end;
-use places::scan::covers;
+ghost use Rattle.term_places.specs.Places.{held, valued};
+ghost use Rattle.term_places.specs.Classes.{Comparing, ComparingKernels, Settled, Told, Same, Meets, EachMeets};
+use term_places::classes::both_settled;
+use term_places::classes::join;
+use term_places::places::kernel;
+use term_places::places::resolve;
+use term_places::places::rest;
+use term_places::places::term_end;
+use term_places::scan::covers;
 use terms::bounds::MEMBER;
 use walks::walk::terms_after;
 

@@ -17,7 +17,7 @@ use Rattle.reader.specs.LentBuffers.{question-into, laid, arities-of, words-of}
 use Rattle.question_reader.specs.Questions as reader
 use Rattle.writer.specs.Written.{held, question-written, list-written, text-of-list}
 use Rattle.results.specs.declared.written.Written.{Written}
-use Rattle.same.specs.Answering.{solves-answer}
+use Rattle.equality.specs.Answering.{solves-answer}
 use Rattle.results.specs.declared.compared.Solving.{Solving}
 use Rattle.results.specs.Result.{Told, told, words-told}
 

@@ -25,7 +25,7 @@ use Rattle.results.specs.declared.ran.Ran.the-variants as running
 use Rattle.results.specs.Loans.{loan, needed, ending}
 use Rattle.results.specs.Result.{gives, told, told-within, result}
 use Rattle.guarantees.specs.Calls.{Posed, asked, Lending, loan-of, in-room, run-told, answers-after, used}
-use Rattle.guarantees.specs.Wording.{Granted, Read-once}
+use Rattle.guarantees.specs.Notions.{Granted, Read-once}
 use Rattle.guarantees.specs.Promised
 pub mod Entries
 

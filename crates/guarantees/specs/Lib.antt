@@ -1,5 +1,5 @@
 pub mod Calls
-pub mod Wording
+pub mod Notions
 pub mod Proofs
 pub mod Promised
 pub mod Examples

@@ -1,7 +1,7 @@
 -- What a customer may rely on, call by call, under nine heads; read it with docs/SPECIFICATION.md beside it. Nothing is asked of a call but that it gave what it gave: the line
 -- `run-told q l ≡ gives o` says that `run`, asked q and lent l, was granted with the outcome o. Nothing is assumed, and each line is proved where it points to.
 --
--- `Calls` has the terms of the entries' contracts, `Wording` the notions that are new here, `Examples` a specimen for each line. Of the crates below: terms/specs/Formed
+-- `Calls` has the terms of the entries' contracts, `Notions` the notions that are new here, `Examples` a specimen for each line. Of the crates below: terms/specs/Formed
 -- has questions and when they are good, laws/specs/Laws when terms are equal, laws/specs/Values when values solve, answers/specs/Fits what it is to meet and to fit
 -- an answer, search/specs/Run the published search, promises/specs/Wording when a loan is no less than another, terms/specs/Refusal and search/specs/Ends the
 -- numbers of refusals and ends.
@@ -31,10 +31,10 @@ use Rattle.text.specs.Text.{question-text}
 use Rattle.text.specs.Sizes.{question-length}
 use Rattle.reader.specs.LentBuffers.{answer}
 use Rattle.results.specs.declared.read.Question.the-variants as reading
-use Rattle.pen.specs.Depths.{all-within}
+use Rattle.word_writer.specs.Depths.{all-within}
 use Rattle.writer.specs.Written.{too-deep-in, too-deep-in-list}
 use Rattle.results.specs.declared.written.Written.the-variants as writing
-use Rattle.same.specs.Answering.{equal-answer}
+use Rattle.equality.specs.Answering.{equal-answer}
 use Rattle.results.specs.declared.compared.Equality.the-variants as equality
 use Rattle.results.specs.declared.compared.Solving.the-variants as solving
 use Rattle.results.specs.Loans.{ending}
@@ -42,7 +42,7 @@ use Rattle.results.specs.Result.{gives, refuses, result}
 use Rattle.results.specs.declared.ran.Ending.{Ending}
 use Rattle.results.specs.declared.ran.Ran.the-variants as running
 use Rattle.guarantees.specs.Calls.{Posed, asked, in-words, Lending, loan-of, in-room, run-told, answers-after, used, question-told, question-after, list-told, list-after, solves-told, text-told, arities-after, words-after}
-use Rattle.guarantees.specs.Wording.{Granted, Read-once, largest, Nests-within, Writable, Writes, Reads, question-in, Compared, Tried, One-of}
+use Rattle.guarantees.specs.Notions.{Granted, Read-once, largest, Nests-within, Writable, Writes, Reads, question-in, Compared, Tried, One-of}
 use Rattle.guarantees.specs.Proofs.Granting as granting
 use Rattle.guarantees.specs.Proofs.AnswersTrue as answering
 use Rattle.guarantees.specs.Proofs.GrantedList as listing

@@ -16,8 +16,8 @@ use Rattle.terms.specs.Substitution.{formed-wider}
 use Rattle.terms.specs.Term.{Term, Terms, empty, with, functor, more, words}
 use Rattle.laws.specs.Equal.{equal}
 use Rattle.laws.specs.Values.{Values, value, value*, in-order, holds-test, solves-test}
-use Rattle.places.specs.Places.{terms-from, Held, values, Placed}
-use Rattle.places.specs.Places as places
+use Rattle.term_places.specs.Places.{terms-from, Held, values, Placed}
+use Rattle.term_places.specs.Places as places
 use Rattle.holding.specs.Holding.{holding, starts-from, Equations, Standings, WithValues}
 use Rattle.holding.proofs.Started.{length-starts, started, started-inside}
 

@@ -14,12 +14,12 @@ use Rattle.terms.specs.Reading.{read, top}
 use Rattle.terms.specs.Term.{Term}
 use Rattle.laws.specs.Equal.{equal}
 use Rattle.laws.specs.Values.{Values, value}
-use Rattle.places.specs.Places.{terms-from, tree, end, Terms, Held, values, valued, Placed, resolved}
-use Rattle.places.specs.Classes.{Classes, Settled, EachItsOwn, Comparing, Same}
-use Rattle.places.specs.Opened.{resolving}
-use Rattle.places.specs.Relabelled.{each-its-own}
-use Rattle.places.specs.Standing.{standing}
-use Rattle.places.specs.Since.{settled-told}
+use Rattle.term_places.specs.Places.{terms-from, tree, end, Terms, Held, values, valued, Placed, resolved}
+use Rattle.term_places.specs.Classes.{Classes, Settled, EachItsOwn, Comparing, Same}
+use Rattle.term_places.specs.Opened.{resolving}
+use Rattle.term_places.specs.Relabelled.{each-its-own}
+use Rattle.term_places.specs.Standing.{standing}
+use Rattle.term_places.specs.Since.{settled-told}
 use Rattle.holding.specs.Holding.{holding, Equations}
 use Rattle.settling.specs.Settling.{AllSettled}
 

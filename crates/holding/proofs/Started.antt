@@ -9,8 +9,8 @@ use lib.Seq.{take-suc-set, take-all}
 use Rattle.terms.specs.Bounds.{Bounds}
 use Rattle.terms.specs.Reading.{top}
 use Rattle.terms.specs.Term.{empty}
-use Rattle.places.specs.Places.{terms-from, tree, end, Terms}
-use Rattle.places.specs.Standing.{standing, Within}
+use Rattle.term_places.specs.Places.{terms-from, tree, end, Terms}
+use Rattle.term_places.specs.Standing.{standing, Within}
 use Rattle.holding.specs.Holding.{starts-from, Standings}
 use Rattle.holding.proofs.Holds.{has-place, next-length}
 

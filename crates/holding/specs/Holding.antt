@@ -12,7 +12,7 @@ use Rattle.terms.specs.Reading.{top}
 use Rattle.terms.specs.Term.{Term}
 use Rattle.laws.specs.Equal.{equal}
 use Rattle.laws.specs.Values.{Values, value}
-use Rattle.places.specs.Places.{Held, Placed, terms-from, end, Terms}
+use Rattle.term_places.specs.Places.{Held, Placed, terms-from, end, Terms}
 
 -- do the first m equations hold?
 unfoldable pub holding : Values → ℕ → List Term → Bool

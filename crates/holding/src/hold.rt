@@ -3,18 +3,18 @@ ghost use mathlib.Core.Path.{_≡_};
 ghost use lib.ListN.{length};
 ghost use Rattle.terms.specs.Bounds.{edition-one};
 ghost use Rattle.laws.specs.Values.{in-order};
-ghost use Rattle.places.specs.Places.{held, values, terms-from};
+ghost use Rattle.term_places.specs.Places.{held, values, terms-from};
 ghost use Rattle.holding.specs.Holding.{holding, starts-from, Equations, Standings, WithValues};
 ghost use Rattle.settling.specs.Settling.{AllSettled};
 use crate::spread::spreads_little;
 use compare::compare::same;
-use places::classes::blank;
-use places::classes::clear;
-use places::classes::number;
-use places::places::resolve;
-use places::places::term_end;
 use ranks::ranks::rank_all;
 use settling::settle::settle;
+use term_places::classes::blank;
+use term_places::classes::clear;
+use term_places::classes::number;
+use term_places::places::resolve;
+use term_places::places::term_end;
 
 // Do the first so many equations of the words hold?
 fn each_holds(

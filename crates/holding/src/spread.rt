@@ -1,7 +1,7 @@
 // How many words a question has with its values put in: where they are few, it is compared as it stands, and where a value stands in many places, places are
 // settled first.
 ghost use Prim.Native.Nat.{_≤_};
-use places::places::wide;
+use term_places::places::wide;
 use terms::bounds::FIRST_FUNCTOR;
 use terms::bounds::FIRST_UNKNOWN;
 

@@ -11,7 +11,7 @@ use Rattle.terms.specs.Lists.{All, Any, none as all-none, both, here, there, an
 use Rattle.terms.specs.Term.{Term, Terms, unknown, functor, members, kernel, over, list, occurs, subst}
 use Rattle.terms.specs.Formed.{Formed, formed-unknown, formed-functor, Equation}
 use Rattle.terms.specs.Answers.{Named}
-use Rattle.terms.specs.Members.{formed-members, formed-kernel, formed-over, formed-list, unknown-below}
+use Rattle.terms.specs.FormedParts.{formed-members, formed-kernel, formed-over, formed-list, unknown-below}
 use Rattle.terms.specs.Substitution.{formed-wider, formed-subst}
 use Rattle.terms.specs.Listing.{Bound}
 use Rattle.search.specs.State.{State, pend, piled, renewed}

@@ -5,7 +5,7 @@ pub mod Members
 pub mod Agree
 pub mod Apart
 pub mod Values
-pub mod Substitution
+pub mod ValuesPut
 pub mod Solving
 pub mod Rank
 pub mod Tails

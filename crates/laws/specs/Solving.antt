@@ -13,7 +13,7 @@ use Rattle.terms.specs.Formed.{Formed, formed-empty, Ground, Equation, sides}
 use Rattle.laws.specs.Laws.{_≈_, ≈sym, ≈trans}
 use Rattle.laws.specs.Agree.{agree}
 use Rattle.laws.specs.Values.{Values, value, given, in-order, GroundValues, Holds, Solves, holds-test, solves-test}
-use Rattle.laws.specs.Substitution.{value-below}
+use Rattle.laws.specs.ValuesPut.{value-below}
 
 pub holds-agree : (σ : Values) (e : Equation) → Holds σ e ↔ (holds-test σ e ≡ true)
 unfolding holds-test

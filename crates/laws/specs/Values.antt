@@ -1,5 +1,5 @@
 -- Values for unknowns, and when they solve a question: after all values are put in, both sides of each equation are equal by the laws.
--- Ground values are formed over any functor table that extends the declared one. Laws are in `Substitution` and `Solving`.
+-- Ground values are formed over any functor table that extends the declared one. Laws are in `ValuesPut` and `Solving`.
 use Prim.Native.Nat.{ℕ}
 use mathlib.Core.Path.{_≡_}
 use mathlib.Core.List.{List, _++_}

@@ -11,12 +11,12 @@ use Rattle.terms.specs.Bounds.{Bounds}
 use Rattle.text.specs.Text.{decimal, numbers, further-numbers, line}
 use Rattle.lines.specs.Lines.{term-line, repeat}
 use Rattle.lines.specs.ListLines.{number-then}
-use Rattle.pen.specs.Pen.{most, Wrote}
-use Rattle.pen.specs.Walk.{then, Walk, ended, term-at, Passed, was-ended}
-use Rattle.pen.specs.declared.put.Passage.{Passage}
-use Rattle.pen.specs.declared.put.Passage.the-variants.{To, TooDeep}
-use Rattle.pen.specs.Passages.{passed-as, passed-after, passed-then, passed-stop}
-use Rattle.pen.specs.Writing.{wrote-nothing}
+use Rattle.word_writer.specs.Pen.{most, Wrote}
+use Rattle.word_writer.specs.WordByWord.{then, Walk, ended, term-at, Passed, was-ended}
+use Rattle.word_writer.specs.declared.put.Passage.{Passage}
+use Rattle.word_writer.specs.declared.put.Passage.the-variants.{To, TooDeep}
+use Rattle.word_writer.specs.Passages.{passed-as, passed-after, passed-then, passed-stop}
+use Rattle.word_writer.specs.Writing.{wrote-nothing}
 
 module _ (ns : List ℕ) where
   pub numbers-none : length ns ≡ 0 → [] ≡ numbers ns

@@ -5,7 +5,7 @@ use mathlib.Core.List.{List, [], _∷_, _++_}
 use Rattle.terms.specs.Bounds.{Bounds}
 use Rattle.text.specs.Keys.{edition-key, unknowns-key, arities-key, equations-key, left-key, right-key}
 use Rattle.text.specs.Text.{decimal, numbers, line}
-use Rattle.pen.specs.Walk.{Walk, ended, prepend, then, term-at}
+use Rattle.word_writer.specs.WordByWord.{Walk, ended, prepend, then, term-at}
 
 -- a line with the term that begins at a place
 unfoldable pub term-line : Bounds → List ℕ → List ℕ → List ℕ → ℕ → Walk

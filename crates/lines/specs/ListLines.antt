@@ -8,9 +8,9 @@ use Rattle.terms.specs.Answers.{Named}
 use Rattle.terms.specs.Bounds.{Bounds}
 use Rattle.text.specs.Keys.{edition-key, end-key, visited-key, answers-key, bindings-key, unknown-key, value-key}
 use Rattle.text.specs.Text.{choose, decimal, line}
-use Rattle.pen.specs.Depths.{depths}
+use Rattle.word_writer.specs.Depths.{depths}
 use Rattle.lines.specs.Lines.{term-line, repeat}
-use Rattle.pen.specs.Walk.{Walk, ended, prepend}
+use Rattle.word_writer.specs.WordByWord.{Walk, ended, prepend}
 
 -- a line with the number that a word is, and what comes after that word; where words stop nothing comes
 unfoldable pub number-then : List ℕ → List ℕ → (ℕ → ℕ → Walk) → ℕ → Walk

@@ -2,13 +2,13 @@
 ghost use Rattle.terms.specs.Bounds.{edition-one};
 ghost use Rattle.text.specs.Text.{decimal, line};
 ghost use Rattle.lines.specs.Lines.{term-line};
-ghost use Rattle.pen.specs.Pen.{Wrote};
-ghost use Rattle.pen.specs.Walk.{Passed};
-use pen::put::Passage;
-use pen::put::put_byte;
-use pen::put::put_bytes;
-use pen::put::put_number;
+ghost use Rattle.word_writer.specs.Pen.{Wrote};
+ghost use Rattle.word_writer.specs.WordByWord.{Passed};
 use term_writer::term::write_term;
+use word_writer::put::Passage;
+use word_writer::put::put_byte;
+use word_writer::put::put_bytes;
+use word_writer::put::put_number;
 
 pub fn put_number_line(text: &mut [u8], at: usize, key: &[u8], number: u64) -> usize
     ensures { λ r. ⌜ Wrote (now (text .entry)) at (line (now (key .entry)) (decimal number)) (now (text .exit)) r ⌝ }

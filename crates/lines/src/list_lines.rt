@@ -6,14 +6,14 @@ ghost use Rattle.text.specs.Keys.{end-key};
 ghost use Rattle.text.specs.Text.{line};
 ghost use Rattle.lines.specs.Lines.{repeat};
 ghost use Rattle.lines.specs.ListLines.{binding-at, answer-at, list-header, list-lines};
-ghost use Rattle.pen.specs.Pen.{Wrote};
-ghost use Rattle.pen.specs.Walk.{Passed};
+ghost use Rattle.word_writer.specs.Pen.{Wrote};
+ghost use Rattle.word_writer.specs.WordByWord.{Passed};
 use crate::line::put_number_line;
 use crate::line::write_term_line;
-use pen::put::Passage;
-use pen::put::put_byte;
-use pen::put::put_bytes;
 use search::ends::End;
+use word_writer::put::Passage;
+use word_writer::put::put_byte;
+use word_writer::put::put_bytes;
 
 fn wide(word: u16) -> u64
     ensures { λ r. ⌜ r ≡ word ⌝ }

@@ -5,14 +5,14 @@ ghost use Rattle.terms.specs.Bounds.{edition-one};
 ghost use Rattle.text.specs.Keys.{arities-key};
 ghost use Rattle.text.specs.Text.{numbers, further-numbers, line};
 ghost use Rattle.lines.specs.Lines.{repeat, equation-at, header, question-lines};
-ghost use Rattle.pen.specs.Pen.{Wrote};
-ghost use Rattle.pen.specs.Walk.{Passed};
+ghost use Rattle.word_writer.specs.Pen.{Wrote};
+ghost use Rattle.word_writer.specs.WordByWord.{Passed};
 use crate::line::put_number_line;
 use crate::line::write_term_line;
-use pen::put::Passage;
-use pen::put::put_byte;
-use pen::put::put_bytes;
-use pen::put::put_number;
+use word_writer::put::Passage;
+use word_writer::put::put_byte;
+use word_writer::put::put_bytes;
+use word_writer::put::put_number;
 
 fn wide(number: u8) -> u64
     ensures { λ r. ⌜ r ≡ number ⌝ }

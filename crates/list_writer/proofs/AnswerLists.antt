@@ -24,10 +24,10 @@ use Rattle.terms.specs.declared.refusal.Checked.{Checked}
 use Rattle.terms.specs.declared.refusal.Checked.the-variants.{Fine}
 use Rattle.terms.specs.declared.refusal.Checked.the-variants as checked
 use Rattle.text.specs.AnswerText.{list-text}
-use Rattle.pen.specs.Depths.{First}
+use Rattle.word_writer.specs.Depths.{First}
 use Rattle.lines.specs.ListLines.{list-lines}
-use Rattle.pen.specs.Pen.{most}
-use Rattle.pen.specs.Walk.{Walk, ended}
+use Rattle.word_writer.specs.Pen.{most}
+use Rattle.word_writer.specs.WordByWord.{Walk, ended}
 use Rattle.writer.specs.Written.{nested, tested, held, measured, too-deep-in-list, check-list, text-of-list, list-written, Held, untouched, written}
 use Rattle.results.specs.declared.written.Written.{Written}
 use Rattle.results.specs.declared.written.Written.the-variants.{Refused}

@@ -17,14 +17,14 @@ use Rattle.terms.specs.Term.{words, size}
 use Rattle.text.specs.AnswerText.{binding-lines, answer-lines, list-text}
 use Rattle.text.specs.Keys.{unknown-key, value-key, bindings-key}
 use Rattle.text.specs.Text.{text, line, decimal}
-use Rattle.pen.specs.Depths.{depths}
+use Rattle.word_writer.specs.Depths.{depths}
 use Rattle.lines.specs.Lines.{repeat, term-line}
 use Rattle.lines.specs.ListLines.{number-then, binding-at, answer-at, list-header, list-lines, binding-depths, list-depths}
-use Rattle.pen.specs.Walk.{Walk, ended, prepend}
+use Rattle.word_writer.specs.WordByWord.{Walk, ended, prepend}
 use Rattle.writer.specs.Written.{too-deep-in-list}
-use Rattle.pen.specs.Guarded.{guard-none}
+use Rattle.word_writer.specs.Guarded.{guard-none}
 use Rattle.writer.proofs.QuestionWalk.{settled, guard-settled, part-then, part-bytes, past, line-over}
-use Rattle.pen.specs.Tied.{Part, chain, from, on-to, before, spelt, length-depths}
+use Rattle.word_writer.specs.Tied.{Part, chain, from, on-to, before, spelt, length-depths}
 
 -- ---- a word in front
 

@@ -9,7 +9,7 @@
 // A refusal is a cause and a place. `number_of` gives a cause's number in the table:
 //   1 a byte that the text form hasn't here, or the text stops      5 wrong count of arguments
 //   2 number missing or with a leading zero                        6 nesting above 200
-//   3 number, count, run limit or 4,097th symbol above its limit    7 output buffer too small, its place being what is needed
+//   3 number, count, run limit or 4,097th symbol above its limit    7 output buffer or room too small, its place being what is needed
 //   4 unknown or functor not declared                              8 words that form no such question, answer list or ground term
 //
 // Counts are taken at full width: one that is too large is refused, never cut.
@@ -22,7 +22,7 @@ ghost use Rattle.search.specs.Ends.{end-of};
 ghost use Rattle.text.specs.Text.{question-text};
 ghost use Rattle.reader.specs.LentBuffers.{ReadGives, question-into};
 ghost use Rattle.writer.specs.Written.{held, question-written, list-written, text-of-list};
-ghost use Rattle.same.specs.Answering.{equal-answer, solves-answer};
+ghost use Rattle.equality.specs.Answering.{equal-answer, solves-answer};
 ghost use Rattle.results.specs.Result.{RunGives, told};
 pub use results::compared::Equality;
 pub use results::compared::Solving;
@@ -96,7 +96,7 @@ pub fn write_answers(
 pub fn equal(arities: &[u8], row: &[u16]) -> Equality
     ensures { λ r. ⌜ r ≡ equal-answer edition-one (now (arities .entry)) (now (row .entry)) ⌝ }
 {
-    same::equal(arities, row)
+    equality::equal(arities, row)
 }
 
 // Do given ground values solve a question?
@@ -112,7 +112,7 @@ pub fn solves(
 ) -> Solving
     ensures { λ r. ⌜ r ≡ solves-answer edition-one unknowns (now (arities .entry)) equations (now (words .entry)) (now (row .entry)) ⌝ }
 {
-    same::solves(unknowns, arities, equations, words, row)
+    equality::solves(unknowns, arities, equations, words, row)
 }
 
 // Searches for every solved form of a question, within limits.

@@ -11,7 +11,7 @@ use Rattle.writer.specs.Written.{held}
 use Rattle.results.specs.declared.written.Written.{Written}
 use Rattle.results.specs.Result.{RunGives, Told, result}
 use Rattle.results.specs.declared.ran.Ran.{Ran}
-use Rattle.replies.specs.Replies.{Replied, granted, of-question, of-written, of-ran}
+use Rattle.c_replies.specs.Replies.{Replied, granted, of-question, of-written, of-ran}
 
 -- ---- by what the entry reads, writes or tells; of each number, of the place and of each buffer what it is before and after
 

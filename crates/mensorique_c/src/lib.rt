@@ -1,7 +1,7 @@
 // The entries as C calls them; include/mensorique.h declares them and is the caller's reference. Each takes what an entry of `mensorique` takes, with a
 // slice as a pointer and a length. A status comes back: 0, and the out numbers are written; or the refusal's number, and the place alone is written.
 //
-// Crate `replies` says which status and which out numbers an answer gives, and tells them. Its `CallsFromC` says what a call gives by the entry's own definition of what
+// Crate `c_replies` says which status and which out numbers an answer gives, and tells them. Its `CallsFromC` says what a call gives by the entry's own definition of what
 // was lent: the reply, and each buffer as the entry leaves it; and how many words a run's room has.
 ghost use mathlib.Core.Path.{_≡_};
 ghost use mathlib.Core.List.{[], _∷_};
@@ -13,16 +13,18 @@ ghost use Rattle.search.specs.Ends.{end-of};
 ghost use Rattle.text.specs.Text.{question-text};
 ghost use Rattle.reader.specs.LentBuffers.{question-into};
 ghost use Rattle.writer.specs.Written.{question-written, list-written, text-of-list};
-ghost use Rattle.same.specs.Answering.{equal-answer, solves-answer};
+ghost use Rattle.equality.specs.Answering.{equal-answer, solves-answer};
 ghost use Rattle.results.specs.Result.{told};
-ghost use Rattle.replies.specs.Replies.{Replied, of-equality, of-solving};
-ghost use Rattle.replies.specs.RoomForC.{room-words};
+ghost use Rattle.c_replies.specs.Replies.{Replied, of-equality, of-solving};
+ghost use Rattle.c_replies.specs.RoomForC.{room-words};
 ghost use Rattle.mensorique_c.specs.CallsFromC.{ReadReplied, WriteReplied, RunReplied};
-use replies::tell_equality;
-use replies::tell_question;
-use replies::tell_ran;
-use replies::tell_solving;
-use replies::tell_written;
+use c_replies::tell_equality;
+use c_replies::tell_question;
+use c_replies::tell_ran;
+use c_replies::tell_solving;
+use c_replies::tell_written;
+use room::layout::HEADER;
+use room::layout::SPARE_ROWS;
 use search::limits::Limits;
 
 #[no_mangle]
@@ -158,5 +160,5 @@ pub extern "C" fn mensorique_room_words(depth: usize, size: usize) -> usize
     if Limits::SIZE < size {
         return 0;
     }
-    (depth + 8) * (size + 8)
+    (depth + SPARE_ROWS) * (size + HEADER)
 }

@@ -4,7 +4,7 @@ ghost use mathlib.Core.Path.{_≡_};
 ghost use Rattle.room.specs.Room.{put};
 ghost use Rattle.noted_sides.specs.NotedSides.{numbers-of, NumberParts, sides-in, SidesParts};
 use choices::sides::Sides;
-use rows::header::HEADER;
+use room::layout::HEADER;
 use rows::walk::wide;
 
 // Writes the numbers of members and of words.

@@ -3,6 +3,7 @@ use Prim.Native.Nat.{ℕ, _+_, _*_, _<_}
 use mathlib.Core.Path.{_≡_, refl, sym, ap, _∙_}
 use mathlib.Core.List.{List, [], _∷_}
 use native.Mathlib.Omega.{arith}
+use Rattle.room.specs.Layout.{stride, aside-row}
 use Rattle.terms.specs.Answers.{Named}
 use Rattle.terms.specs.Term.{unknown, over}
 use Rattle.search.specs.State.{State, Node, renewed, size-named}
@@ -69,12 +70,12 @@ module _ {arities l : List ℕ} {at : ℕ} {header : Header} {number lent scratc
     pub join-due : number ≡ 0 → most ≡ 0 → Kept l at number lent scratch most st (Due 0) l
     join-due e f = unopened scratch (only-due l at number lent most st one e f)
 
-    pub join-asked : {rest : Rest} → 0 < most → rest ≡ rest-after at header 0 → JoinParts l rest (scratch + 3 * (lent + 8)) (at + (lent + 8)) lent (header .next)
+    pub join-asked : {rest : Rest} → 0 < most → rest ≡ rest-after at header 0 → JoinParts l rest (aside-row lent scratch) (at + stride lent) lent (header .next)
     unfolding header-for
     join-asked h e = rw (e, Q .header-is) (join-parts (held (Q .ready) h) (Q .quiet) (entry .cut))
 
     pub join-told : {rest : Rest} {a : Made} {x : Next} {r : List ℕ} → number ≡ 0 → 0 < most → rest ≡ rest-after at header 0
-        → Joined arities l rest (scratch + 3 * (lent + 8)) (at + (lent + 8)) lent (header .next) a r → x ≡ next-made a → Kept l at number lent scratch most st x r
+        → Joined arities l rest (aside-row lent scratch) (at + stride lent) lent (header .next) a r → x ≡ next-made a → Kept l at number lent scratch most st x r
     unfolding header-for
     join-told z h e J f =
         let H = held (Q .ready) h in

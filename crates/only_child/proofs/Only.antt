@@ -5,6 +5,7 @@ use mathlib.Core.List.{List, [], _∷_}
 use native.Mathlib.Omega.{arith}
 use lib.ListN.{drop}
 use lib.Seq.{drop-nil}
+use Rattle.room.specs.Layout.{stride}
 use Rattle.terms.specs.Bounds.{edition-one}
 use Rattle.search.specs.State.{State, Node, dead, live}
 use Rattle.search.specs.Children.{children}
@@ -18,7 +19,7 @@ use Rattle.only_child.specs.Became.{never-dead}
 use Rattle.only_child.specs.Next.{dead-ends, Tells, all-dead, then-live, then-due, Child, Kept, next-made}
 
 -- nothing is written
-untouched : {l : List ℕ} {at number size most : ℕ} {st : State} {x : Next} → Tells l (at + (size + 8)) size (drop number (children st)) most l x → Child l at number size most st x l
+untouched : {l : List ℕ} {at number size most : ℕ} {st : State} {x : Next} → Tells l (at + stride size) size (drop number (children st)) most l x → Child l at number size most st x l
 untouched t = record { long = refl; below = refl; tells = t }
 
 pub unopened : {l : List ℕ} {at number size most : ℕ} {st : State} {x : Next} (scratch : ℕ) → Child l at number size most st x l → Kept l at number size scratch most st x l
@@ -45,8 +46,8 @@ module _ (l : List ℕ) (at number size most : ℕ) (st : State) where
     only-due e f = untouched (then-due node [] (sym f) (ap (λ (n : ℕ). drop n (children st)) e ∙ one))
 
   -- the child was made
-  by-made : (node : Node) (a : Made) {r : List ℕ} → 0 < most → drop number (children st) ≡ node ∷ [] → Makes edition-one l (at + (size + 8)) size node a r
-      → Tells l (at + (size + 8)) size (drop number (children st)) most r (next-made a)
+  by-made : (node : Node) (a : Made) {r : List ℕ} → 0 < most → drop number (children st) ≡ node ∷ [] → Makes edition-one l (at + stride size) size node a r
+      → Tells l (at + stride size) size (drop number (children st)) most r (next-made a)
   unfolding next-made of-reached dead-ends becomes
   by-made dead Dead h e M = all-dead h e
   by-made dead Names h e M = let t = M .tells in let z : _≡_ {A = ℕ} 0 1 = cc in absurd (omega arith)
@@ -57,7 +58,7 @@ module _ (l : List ℕ) (at number size most : ℕ) (st : State) where
   by-made (live next) Large h e M = then-live next [] h e M
   by-made (live next) Live h e M = then-live next [] h e M
 
-  pub only-made : {node : Node} {a : Made} {x : Next} {r : List ℕ} → children st ≡ node ∷ [] → number ≡ 0 → 0 < most → Makes edition-one l (at + (size + 8)) size node a r → x ≡ next-made a
+  pub only-made : {node : Node} {a : Made} {x : Next} {r : List ℕ} → children st ≡ node ∷ [] → number ≡ 0 → 0 < most → Makes edition-one l (at + stride size) size node a r → x ≡ next-made a
       → Child l at number size most st x r
   only-made {node} {a} one e h M f =
       record { long = M .long; below = M .below; tells = rw f (by-made node a h (ap (λ (n : ℕ). drop n (children st)) e ∙ one) M) }

@@ -6,6 +6,7 @@ use mathlib.Core.List.{List, [], _∷_}
 use native.Mathlib.Omega.{arith}
 use lib.ListN.{take, drop}
 use Rattle.room.specs.Room.{seg}
+use Rattle.room.specs.Layout.{HEADER, stride, aside-row}
 use Rattle.terms.specs.Formed.{Equation, row}
 use Rattle.terms.specs.Flat.{size-positive}
 use Rattle.search.specs.State.{State, pend, size-equations, size-named, state-size}
@@ -41,7 +42,7 @@ some-equation [] n = absurd (n refl)
 some-equation (e ∷ es) n = record { first = e; others = es; cut = refl }
 
 module _ {arities l : List ℕ} {at number lent scratch most : ℕ} {st : State} (R : Ready arities l at number lent scratch most st) where
-  pub held : 0 < most → Held arities l at (at + (lent + 8)) (scratch + 3 * (lent + 8)) lent st
+  pub held : 0 < most → Held arities l at (at + stride lent) (aside-row lent scratch) lent st
   held h = record {
     rows = record {
       row = omega arith;
@@ -55,17 +56,17 @@ module _ {arities l : List ℕ} {at number lent scratch most : ℕ} {st : State}
     fits = R .fits;
   }
 
-  pub kept-beside : {r : List ℕ} → 0 < most → Beside l r (at + (lent + 8)) lent (scratch + 3 * (lent + 8)) → seg r scratch (3 * (lent + 8)) ≡ seg l scratch (3 * (lent + 8))
+  pub kept-beside : {r : List ℕ} → 0 < most → Beside l r (at + stride lent) lent (aside-row lent scratch) → seg r scratch (3 * stride lent) ≡ seg l scratch (3 * stride lent)
   kept-beside {r} h B =
       let b = R .child h in
-      let e : at + (lent + 8) + (lent + 8) + (scratch - (at + (lent + 8) + (lent + 8))) ≡ scratch = omega arith in
-      rw e at (same-part l r (at + (lent + 8) + (lent + 8)) (scratch + 3 * (lent + 8) - (at + (lent + 8) + (lent + 8))) (scratch - (at + (lent + 8) + (lent + 8))) (3 * (lent + 8)) (omega arith) (B .kept))
+      let e : at + stride lent + stride lent + (scratch - (at + stride lent + stride lent)) ≡ scratch = omega arith in
+      rw e at (same-part l r (at + stride lent + stride lent) (aside-row lent scratch - (at + stride lent + stride lent)) (scratch - (at + stride lent + stride lent)) (3 * stride lent) (omega arith) (B .kept))
 
   pub header-read : {h : Header} → h ≡ header-in (take (at + 5 - at) (drop at l)) → h ≡ header-for st
   header-read e = e ∙ ap header-in (lent-part l at 5 ∙ R .holds .header) ∙ header-in-words (header-for st)
 
   -- the words of the pending equations end before the scratch rows
-  pub pending-within : at + 8 + size-equations (st .pending) ≤ scratch
+  pub pending-within : at + HEADER + size-equations (st .pending) ≤ scratch
   unfolding state-size
   pending-within = let f : size-equations (st .pending) + size-named (st .pile) + size-named (st .bindings) ≤ lent = R .fits in omega (arith, R .row)
 

@@ -4,6 +4,7 @@ use mathlib.Core.Path.{_≡_, refl, sym, ap, _∙_}
 use mathlib.Core.List.{List, [], _∷_}
 use native.Mathlib.Omega.{arith}
 use lib.ListN.{take, drop}
+use Rattle.room.specs.Layout.{HEADER, stride, aside-row}
 use Rattle.terms.specs.Bounds.{edition-one}
 use Rattle.terms.specs.Term.{Term}
 use Rattle.terms.specs.Formed.{Equation}
@@ -55,28 +56,28 @@ module _ {arities l : List ℕ} {at : ℕ} {rest : Rest} {first : Forced} {numbe
   pub right-within : first .right ≤ first .end
   right-within = omega (arith, S .right-is, S .end-is)
 
-  pub first-within : at + 8 + first .end ≤ scratch
+  pub first-within : at + HEADER + first .end ≤ scratch
   first-within = omega (arith, S .end-is, first-size st (S .cut), pending-within (S .ready))
 
-  step-for : {s : Subject} → 0 < most → s ≡ subject-in edition-one (take (at + 8 + first .end - (at + 8)) (drop (at + 8) l)) (at + 8) (first .right) (first .end)
-      → StepFor arities l at (at + (lent + 8)) (scratch + 3 * (lent + 8)) lent (first .right) (first .end) next rest s (of-plain (first .step)) st e es
+  step-for : {s : Subject} → 0 < most → s ≡ subject-in edition-one (take (at + HEADER + first .end - (at + HEADER)) (drop (at + HEADER) l)) (at + HEADER) (first .right) (first .end)
+      → StepFor arities l at (at + stride lent) (aside-row lent scratch) lent (first .right) (first .end) next rest s (of-plain (first .step)) st e es
   step-for h q = record {
     held = held (S .ready) h;
     cut = S .cut;
     right-is = S .right-is;
     end-is = S .end-is;
     rest-is = S .rest-is;
-    subject-is = rw (S .right-is, S .end-is) at (rw (lent-part l (at + 8) (first .end)) at q);
+    subject-is = rw (S .right-is, S .end-is) at (rw (lent-part l (at + HEADER) (first .end)) at q);
     step-is = S .step-is;
     next-is = S .next-is;
   }
 
-  pub step-asked : {s : Subject} → 0 < most → s ≡ subject-in edition-one (take (at + 8 + first .end - (at + 8)) (drop (at + 8) l)) (at + 8) (first .right) (first .end)
-      → StepAt arities l at (at + (lent + 8)) (scratch + 3 * (lent + 8)) lent (first .right) (first .end) next rest s (of-plain (first .step))
+  pub step-asked : {s : Subject} → 0 < most → s ≡ subject-in edition-one (take (at + HEADER + first .end - (at + HEADER)) (drop (at + HEADER) l)) (at + HEADER) (first .right) (first .end)
+      → StepAt arities l at (at + stride lent) (aside-row lent scratch) lent (first .right) (first .end) next rest s (of-plain (first .step))
   step-asked h q = record { state = st; first = e; others = es; here = step-for h q }
 
-  pub step-told : {s : Subject} {a : Made} {x : Next} {r : List ℕ} → number ≡ 0 → 0 < most → s ≡ subject-in edition-one (take (at + 8 + first .end - (at + 8)) (drop (at + 8) l)) (at + 8) (first .right) (first .end)
-      → Taken arities l at (at + (lent + 8)) (scratch + 3 * (lent + 8)) lent (first .right) (first .end) next rest s (of-plain (first .step)) a r → x ≡ next-made a → Kept l at number lent scratch most st x r
+  pub step-told : {s : Subject} {a : Made} {x : Next} {r : List ℕ} → number ≡ 0 → 0 < most → s ≡ subject-in edition-one (take (at + HEADER + first .end - (at + HEADER)) (drop (at + HEADER) l)) (at + HEADER) (first .right) (first .end)
+      → Taken arities l at (at + stride lent) (aside-row lent scratch) lent (first .right) (first .end) next rest s (of-plain (first .step)) a r → x ≡ next-made a → Kept l at number lent scratch most st x r
   step-told z h q T f =
       record {
         child = only-made l at number lent most st one z h (T .taken st e es (child .0) (step-for h q) (child .1)) f;

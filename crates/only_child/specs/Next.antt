@@ -5,9 +5,11 @@ use mathlib.Core.Path.{_≡_, sym, ap, _∙_}
 use mathlib.Core.List.{List, [], _∷_, _++_}
 use lib.ListN.{length, drop}
 use Rattle.room.specs.Room.{seg, seg-seg}
+use Rattle.room.specs.Layout.{stride}
 use Rattle.terms.specs.Bounds.{edition-one}
 use Rattle.search.specs.State.{State, Node, dead, live, state-size}
 use Rattle.search.specs.Children.{children}
+use Rattle.search.specs.RunLimits.{most-size, most-steps}
 use Rattle.rows.specs.declared.parts.Made.{Made}
 use Rattle.rows.specs.declared.parts.Made.the-variants.{Dead, Names, Large, Live}
 use Rattle.rows.specs.declared.parts.Reached.{Reached}
@@ -23,12 +25,12 @@ pub record Ready (arities l : List ℕ) (at number size scratch most : ℕ) (st 
   pub sound : Sound arities st
   pub holds : Holds edition-one l at st
   pub fits : state-size st ≤ size
-  pub row : at + (size + 8) ≤ scratch
-  pub child : 0 < most → at + (size + 8) + (size + 8) ≤ scratch
-  pub scratch-rows : scratch + 7 * (size + 8) ≤ length l
-  pub lent-small : size ≤ 8192
+  pub row : at + stride size ≤ scratch
+  pub child : 0 < most → at + stride size + stride size ≤ scratch
+  pub scratch-rows : scratch + 7 * stride size ≤ length l
+  pub lent-small : size ≤ most-size
   pub small : length l < 2 ^ 32
-  pub numbers : number + most ≤ 1000000000
+  pub numbers : number + most ≤ most-steps
 
 unfoldable pub dead-ends : ℕ → List Node
 dead-ends zero = []
@@ -46,13 +48,13 @@ pub data Tells (l : List ℕ) (to size : ℕ) (ns : List Node) (most : ℕ) (r :
 -- the rows up to the one whose children are looked for are as they were
 pub record Child (l : List ℕ) (at number size most : ℕ) (st : State) (a : Next) (r : List ℕ) : Type 0 where
   pub long : length r ≡ length l
-  pub below : seg r 0 (at + (size + 8)) ≡ seg l 0 (at + (size + 8))
-  pub tells : Tells l (at + (size + 8)) size (drop number (children st)) most r a
+  pub below : seg r 0 (at + stride size) ≡ seg l 0 (at + stride size)
+  pub tells : Tells l (at + stride size) size (drop number (children st)) most r a
 
 -- the same, where no split is opened: what stood open in the first three rows of scratch still does
 pub record Kept (l : List ℕ) (at number size scratch most : ℕ) (st : State) (a : Next) (r : List ℕ) : Type 0 where
   pub child : Child l at number size most st a r
-  pub keeps : seg r scratch (3 * (size + 8)) ≡ seg l scratch (3 * (size + 8))
+  pub keeps : seg r scratch (3 * stride size) ≡ seg l scratch (3 * stride size)
 
 -- ---- a state that has one child
 

@@ -8,8 +8,8 @@ use crate::next::Next;
 use crate::next::told_of;
 use plain_steps::child::take_step;
 use plain_steps::plain::Forced;
+use room::layout::HEADER;
 use rows::first::subject_of;
-use rows::header::HEADER;
 use rows::parts::Rest;
 
 // The children of the row at `at` from `number` on; `rest` is what is left of the row after its first equation. What is laid out lies after the three

@@ -5,8 +5,8 @@ ghost use Rattle.only_child.specs.Quiet.{Quiet};
 use crate::next::Next;
 use crate::next::told_of;
 use plain_steps::join::join;
+use room::layout::HEADER;
 use rows::first::rest_of;
-use rows::header::HEADER;
 use rows::header::Header;
 
 // The children of the row at `at` from `number` on. Its pile is laid out after the three rows of scratch in which a split may stand open.

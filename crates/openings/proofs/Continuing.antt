@@ -8,10 +8,11 @@ use native.Mathlib.Omega.{arith}
 use lib.ListN.{length, take, drop, getD, length-append, List·getD-append}
 use lib.Seq.{getD-append-add}
 use Rattle.room.specs.Room.{seg, getD-seg}
+use Rattle.room.specs.Layout.{HEADER, stride, right-row, picks-row}
 use Rattle.terms.specs.Bounds.{edition-one}
 use Rattle.terms.specs.Term.{Term, members, kernel, size, words}
 use Rattle.terms.specs.Flat.{size-positive, length-words}
-use Rattle.terms.specs.Members.{formed-kernel}
+use Rattle.terms.specs.FormedParts.{formed-kernel}
 use Rattle.search.specs.State.{State}
 use Rattle.search.specs.Classify.{tails}
 use Rattle.search.specs.Children.{children}
@@ -21,15 +22,15 @@ use Rattle.binding.specs.At.{first-size}
 use Rattle.rows.specs.declared.parts.Rest.{Rest}
 use Rattle.rows.specs.declared.header.Header.{Header}
 use Rattle.rows.specs.First.{header-in, HeaderParts, rest-after}
-use Rattle.rows.specs.Members.{member-words, head-word, head-kernel, words-members, length-members}
+use Rattle.rows.specs.MemberWords.{member-words, head-word, head-kernel, words-members, length-members}
 use Rattle.rows.specs.Row.{header-for}
 use Rattle.rows.specs.Stepping.{tails-of, tails-of-heads}
 use Rattle.rows.specs.Stripped.{kernel-place}
-use Rattle.turns.specs.Picking.{radix}
+use Rattle.search_laws.specs.Picking.{radix}
 use Rattle.choices.specs.declared.sides.Sides.{Sides}
 use Rattle.choices.specs.Digits.{copies, length-copies, length-digits, PickParts, Advanced}
 use Rattle.choices.specs.OpenParent.{Parent, few-members}
-use Rattle.choices.specs.Places.{places}
+use Rattle.choices.specs.MemberPlaces.{places}
 use Rattle.choices.specs.GatheredPicks.{At, at-of, at-first, at-last, length-places}
 use Rattle.only_child.specs.declared.next.Next.{Next}
 use Rattle.only_child.specs.declared.next.Next.the-variants.{Spent}
@@ -56,10 +57,10 @@ module _ {arities l : List ℕ} {at lent scratch most : ℕ} {st : State} {last 
   u = O .shown .first .right
 
   abbrev us : ℕ
-  us = scratch + (lent + 8)
+  us = right-row lent scratch
 
   abbrev picks : ℕ
-  picks = scratch + (lent + 8) + (lent + 8)
+  picks = picks-row lent scratch
 
   abbrev rest : Rest
   rest = rest-after at (header-for st) (size t + size u)
@@ -138,23 +139,23 @@ module _ {arities l : List ℕ} {at lent scratch most : ℕ} {st : State} {last 
     abbrev both : List ℕ
     both = words edition-one t ++ words edition-one u
 
-    word-there : (i : ℕ) → i < size t + size u → getD l (at + 8 + i) 0 ≡ getD both i 0
-    word-there i h = sym (getD-seg l (at + 8) (size t + size u) i h) ∙ ap (λ (ws : List ℕ). getD ws i 0) (open-there (splitting refl) .stands)
+    word-there : (i : ℕ) → i < size t + size u → getD l (at + HEADER + i) 0 ≡ getD both i 0
+    word-there i h = sym (getD-seg l (at + HEADER) (size t + size u) i h) ∙ ap (λ (ws : List ℕ). getD ws i 0) (open-there (splitting refl) .stands)
 
-    s-word : getD l (at + 8 + a .s) 0 ≡ head-word edition-one (kernel t)
+    s-word : getD l (at + HEADER + a .s) 0 ≡ head-word edition-one (kernel t)
     s-word =
-        ap (λ (j : ℕ). getD l (at + 8 + j) 0) (noted .s-is) ∙ word-there (kernel-place t) (omega (arith, kernel-below t))
+        ap (λ (j : ℕ). getD l (at + HEADER + j) 0) (noted .s-is) ∙ word-there (kernel-place t) (omega (arith, kernel-below t))
         ∙ List·getD-append (words edition-one t) (words edition-one u) 0 (kernel-place t) (omega (arith, kernel-below t, length-words edition-one t))
         ∙ head-kernel edition-one t
 
-    r-word : getD l (at + 8 + a .r) 0 ≡ head-word edition-one (kernel u)
+    r-word : getD l (at + HEADER + a .r) 0 ≡ head-word edition-one (kernel u)
     r-word =
-        ap (λ (j : ℕ). getD l (at + 8 + j) 0) (noted .r-is) ∙ word-there (size t + kernel-place u) (omega (arith, kernel-below u))
+        ap (λ (j : ℕ). getD l (at + HEADER + j) 0) (noted .r-is) ∙ word-there (size t + kernel-place u) (omega (arith, kernel-below u))
         ∙ ap (λ (j : ℕ). getD both (j + kernel-place u) 0) (sym (length-words edition-one t))
         ∙ getD-append-add (words edition-one t) (words edition-one u) (kernel-place u) 0
         ∙ head-kernel edition-one u
 
-    module _ {k : Tails} (found : k ≡ tails-of edition-one (getD l (at + 8 + a .s) 0) (getD l (at + 8 + a .r) 0)) where
+    module _ {k : Tails} (found : k ≡ tails-of edition-one (getD l (at + HEADER + a .s) 0) (getD l (at + HEADER + a .r) 0)) where
       kind-is : k ≡ O .shown .kind
       unfolding tails
       kind-is =
@@ -189,8 +190,8 @@ module _ {arities l : List ℕ} {at lent scratch most : ℕ} {st : State} {last 
           on-long : length r ≡ length l
           on-long = advanced-long here A
 
-          below : seg r 0 (at + (lent + 8)) ≡ seg l 0 (at + (lent + 8))
-          below = advanced-before here A 0 (at + (lent + 8)) (omega (arith, O .ready .row))
+          below : seg r 0 (at + stride lent) ≡ seg l 0 (at + stride lent)
+          below = advanced-before here A 0 (at + stride lent) (omega (arith, O .ready .row))
 
           pub on-spent : more ≡ false → Opens l at (last + 1) lent scratch most st (Spent 0) r
           on-spent z =

@@ -6,6 +6,7 @@ use mathlib.Core.List.{List, [], _∷_, _++_}
 use native.Mathlib.Omega.{arith}
 use lib.ListN.{length, drop}
 use Rattle.room.specs.Room.{seg}
+use Rattle.room.specs.Layout.{HEADER, stride, right-row, picks-row, sides-at}
 use Rattle.terms.specs.Term.{Term, members, size}
 use Rattle.terms.specs.Formed.{Equation}
 use Rattle.search.specs.State.{State, pend}
@@ -14,11 +15,11 @@ use Rattle.search.specs.declared.steps.Tails.{Tails}
 use Rattle.rows.specs.declared.parts.Rest.{Rest}
 use Rattle.rows.specs.declared.parts.Reached.the-variants.{Live}
 use Rattle.rows.specs.Stripped.{kernel-place}
-use Rattle.turns.specs.ChoiceNumbers.{Digits}
-use Rattle.turns.specs.Picking.{radix}
+use Rattle.search_laws.specs.ChoiceNumbers.{Digits}
+use Rattle.search_laws.specs.Picking.{radix}
 use Rattle.choices.specs.declared.sides.Sides.{Sides}
 use Rattle.choices.specs.Digits.{copies}
-use Rattle.choices.specs.Places.{places}
+use Rattle.choices.specs.MemberPlaces.{places}
 use Rattle.choices.specs.OpenParent.{Parent, Opened, few-members}
 use Rattle.only_child.specs.declared.next.Next.{Next}
 use Rattle.only_child.specs.declared.next.Next.the-variants.{Spent, Node as Found}
@@ -39,7 +40,7 @@ pub record Noted (l : List ℕ) (sides : Sides) (lent scratch : ℕ) (t u : Term
   pub s-is : sides .s ≡ kernel-place t
   pub r-is : sides .r ≡ size t + kernel-place u
   pub t-noted : seg l scratch (sides .n + 1) ≡ places t 0
-  pub u-noted : seg l (scratch + (lent + 8)) (sides .m + 1) ≡ places u (size t)
+  pub u-noted : seg l (right-row lent scratch) (sides .m + 1) ≡ places u (size t)
 
 -- the split's parent with these digits
 abbrev pub parent : State → Equation → List Equation → List ℕ → List ℕ → Parent
@@ -50,7 +51,7 @@ module _ {arities l : List ℕ} {at : ℕ} {rest : Rest} {right end : ℕ} {kind
     {sides : Sides} {r : List ℕ} (N : Noted r sides lent scratch (e .left) (e .right))
     (long : length r ≡ length l) (same : (k n : ℕ) → k + n ≤ scratch → seg r k n ≡ seg l k n) where
   abbrev picks : ℕ
-  picks = scratch + (lent + 8) + (lent + 8)
+  picks = picks-row lent scratch
 
   pub few : (sides .n + sides .m < sides .end) × (sides .end ≤ lent)
   few = (
@@ -77,7 +78,7 @@ module _ {arities l : List ℕ} {at : ℕ} {rest : Rest} {right end : ℕ} {kind
         few = rw (S .next-is) (S .ready .sound .few);
         next-is = S .next-is;
         bindings-small = R .bindings-small;
-        sides-stand = rw end-is (same (at + 8) end (omega (arith, T .row)) ∙ T .stands);
+        sides-stand = rw end-is (same (at + HEADER) end (omega (arith, T .row)) ∙ T .stands);
         rested = record {
           pending = same (rest .at) (rest .pending) (omega (arith, T .row, R .at-is, R .fits)) ∙ (rested S) .pending;
           pile = same (rest .at + rest .pending) (rest .pile) (omega (arith, T .row, R .at-is, R .fits)) ∙ (rested S) .pile;
@@ -138,7 +139,7 @@ module _ {arities l : List ℕ} {at : ℕ} {rest : Rest} {right end : ℕ} {kind
   unfolding all-children
   all-of ds fs = children-are S
 
-  module _ (r : List ℕ) (long : length r ≡ length l) (below : seg r 0 (at + (lent + 8)) ≡ seg l 0 (at + (lent + 8))) where
+  module _ (r : List ℕ) (long : length r ≡ length l) (below : seg r 0 (at + stride lent) ≡ seg l 0 (at + stride lent)) where
     -- there is none from the number on
     pub opens-none : drop number (children st) ≡ [] → Opens l at number lent scratch most st (Spent 0) r
     unfolding dead-ends
@@ -147,7 +148,7 @@ module _ {arities l : List ℕ} {at : ℕ} {rest : Rest} {right end : ℕ} {kind
       leaves = record { shown = λ k q. absurd (spent-none q) };
     }
 
-    module _ {sides : Sides} {first second : ℕ} {ds fs : List ℕ} (told : seg r (scratch + (lent + 8) + (lent + 8) + lent) 3 ≡ length (members (e .left)) ∷ length (members (e .right)) ∷ (size (e .left) + size (e .right)) ∷ [])
+    module _ {sides : Sides} {first second : ℕ} {ds fs : List ℕ} (told : seg r (sides-at lent scratch) 3 ≡ length (members (e .left)) ∷ length (members (e .right)) ∷ (size (e .left) + size (e .right)) ∷ [])
         (here : place (parent st e es ds fs) ≡ number)
         {a : Next} {q : List ℕ} (K : Picked arities r at rest sides kind first second lent next scratch most (parent st e es ds fs) a q) where
       shown : (k : ℕ) → a ≡ Found k Live → Shown q lent scratch st (number + k)

@@ -4,6 +4,7 @@ use mathlib.Core.Path.{_≡_, _∙_}
 use mathlib.Core.List.{List, [], _∷_}
 use native.Mathlib.Omega.{arith}
 use lib.ListN.{take}
+use Rattle.room.specs.Layout.{HEADER}
 use Rattle.terms.specs.Bounds.{edition-one}
 use Rattle.terms.specs.Term.{words, size}
 use Rattle.terms.specs.Formed.{Equation, row}
@@ -23,7 +24,7 @@ use Rattle.only_child.proofs.ReadyRow.{children-by-first}
 
 -- the numbers of what is left of the row
 pub record RestNumbers (rest : Rest) (at end lent : ℕ) : Type 0 where
-  pub at-is : rest .at ≡ at + 8 + end
+  pub at-is : rest .at ≡ at + HEADER + end
   pub fits : end + (rest .pending + rest .pile + rest .bound) ≤ lent
   pub bindings-small : rest .bindings < 65534
 

@@ -7,16 +7,17 @@ use native.Mathlib.Nat.{zero-mul, one-mul, mul-le-mul-right}
 use lib.ListN.{length, length-append, drop-of-length-le}
 use Rattle.room.specs.Room.{seg, put, length-put, length-seg, seg-append, seg-put-same}
 use Rattle.room.specs.Parts.{earlier, seg-put}
+use Rattle.room.specs.Layout.{stride, right-row, picks-row}
 use Rattle.terms.specs.Term.{members, size}
 use Rattle.terms.specs.Formed.{Equation}
 use Rattle.search.specs.State.{State}
 use Rattle.search.specs.declared.steps.Tails.{Tails}
 use Rattle.rows.specs.declared.parts.Rest.{Rest}
-use Rattle.turns.specs.ChoiceNumbers.{choices, number as value-of}
-use Rattle.turns.specs.Picking.{radix}
+use Rattle.search_laws.specs.ChoiceNumbers.{choices, number as value-of}
+use Rattle.search_laws.specs.Picking.{radix}
 use Rattle.choices.specs.declared.sides.Sides.{Sides}
 use Rattle.choices.specs.Digits.{copies, length-copies, length-digits, DigitParts, Decoded}
-use Rattle.choices.specs.Places.{places}
+use Rattle.choices.specs.MemberPlaces.{places}
 use Rattle.choices.specs.GatheredPicks.{length-places}
 use Rattle.choices.specs.Open.{OpenSides}
 use Rattle.choices.specs.OpenParent.{Parent, Opened, few-members}
@@ -35,10 +36,10 @@ module _ {arities l : List ℕ} {at : ℕ} {rest : Rest} {right end : ℕ} {kind
     (S : Splitting arities l at rest right end kind number lent next scratch most st e es)
     {sides : Sides} {r : List ℕ} (O : OpenSides l right end lent scratch (e .left) (e .right) sides r) where
   abbrev us : ℕ
-  us = scratch + (lent + 8)
+  us = right-row lent scratch
 
   abbrev picks : ℕ
-  picks = scratch + (lent + 8) + (lent + 8)
+  picks = picks-row lent scratch
 
   pub members-few : (sides .n + sides .m < sides .end) × (sides .end ≤ lent)
   members-few = (
@@ -153,10 +154,10 @@ module _ {arities l : List ℕ} {at : ℕ} {rest : Rest} {right end : ℕ} {kind
         all-long : length r′ ≡ length l
         all-long = same-long open-before (D .digits) (D .room) ∙ long
 
-        all-below : seg r′ 0 (at + (lent + 8)) ≡ seg l 0 (at + (lent + 8))
+        all-below : seg r′ 0 (at + stride lent) ≡ seg l 0 (at + stride lent)
         all-below =
             let T = open-there S in
-            same-before open-before (D .digits) (D .room) 0 (at + (lent + 8)) (omega (arith, T .row)) ∙ same-below 0 (at + (lent + 8)) (omega (arith, T .row))
+            same-before open-before (D .digits) (D .room) 0 (at + stride lent) (omega (arith, T .row)) ∙ same-below 0 (at + stride lent) (omega (arith, T .row))
 
         -- the number is past the last child
         pub told-past : (left ≡ 0 → ⊥) → Opens l at number lent scratch most st (Spent 0) r′

@@ -11,7 +11,7 @@ use Rattle.terms.specs.Term.{members, kernel}
 use Rattle.terms.specs.Shape.{is-unknown}
 use Rattle.search.specs.declared.steps.Tails.{Tails}
 use Rattle.rows.specs.declared.parts.Rest.{Rest}
-use Rattle.turns.specs.ChoiceNumbers.{number}
+use Rattle.search_laws.specs.ChoiceNumbers.{number}
 use Rattle.choices.specs.declared.sides.Sides.{Sides}
 use Rattle.choices.specs.Digits.{copies, length-copies, length-digits, PickParts, Advanced}
 use Rattle.choices.specs.OpenParent.{Parent}

@@ -11,8 +11,8 @@ use Rattle.terms.specs.Formed.{Equation}
 use Rattle.search.specs.Classify.{tails}
 use Rattle.search.specs.declared.steps.Tails.{Tails}
 use Rattle.rows.specs.declared.parts.Rest.{Rest}
-use Rattle.turns.specs.ChoiceNumbers.{choices, number, Digits, no-digit, digit, choices-append, number-append}
-use Rattle.turns.specs.Picking.{radix, radices-of, t-radices, u-radices, child-number, drop-split, length-split}
+use Rattle.search_laws.specs.ChoiceNumbers.{choices, number, Digits, no-digit, digit, choices-append, number-append}
+use Rattle.search_laws.specs.Picking.{radix, radices-of, t-radices, u-radices, child-number, drop-split, length-split}
 use Rattle.choices.specs.declared.sides.Sides.{Sides}
 use Rattle.choices.specs.Digits.{copies}
 use Rattle.choices.specs.OpenParent.{Parent}

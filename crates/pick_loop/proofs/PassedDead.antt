@@ -7,6 +7,7 @@ use native.Mathlib.Omega.{arith}
 use native.Mathlib.Nat.{add-zero}
 use lib.ListN.{length, drop}
 use Rattle.room.specs.Room.{seg}
+use Rattle.room.specs.Layout.{stride, sides-at}
 use Rattle.terms.specs.Bounds.{Bounds, edition-one}
 use Rattle.search.specs.State.{State, Node, dead, live}
 use Rattle.search.specs.declared.steps.Tails.{Tails}
@@ -56,14 +57,14 @@ pub record Passed (arities l : List ℕ) (at : ℕ) (rest : Rest) (sides : Sides
   pub few : k ≤ most
   pub passed : drop (place p) (all-children p) ≡ dead-ends k ++ drop (place p + k) (all-children p)
   pub long : length r ≡ length l
-  pub below : seg r 0 (at + (lent + 8)) ≡ seg l 0 (at + (lent + 8))
-  pub told : seg r (scratch + (lent + 8) + (lent + 8) + lent) 3 ≡ seg l (scratch + (lent + 8) + (lent + 8) + lent) 3
+  pub below : seg r 0 (at + stride lent) ≡ seg l 0 (at + stride lent)
+  pub told : seg r (sides-at lent scratch) 3 ≡ seg l (sides-at lent scratch) 3
 
 -- what the child that was made leaves as it was
-same-told : {l r : List ℕ} {at lent scratch : ℕ} → Elsewhere l r at lent scratch → seg r (scratch + (lent + 8) + (lent + 8) + lent) 3 ≡ seg l (scratch + (lent + 8) + (lent + 8) + lent) 3
+same-told : {l r : List ℕ} {at lent scratch : ℕ} → Elsewhere l r at lent scratch → seg r (sides-at lent scratch) 3 ≡ seg l (sides-at lent scratch) 3
 same-told {lent = lent} {scratch = scratch} E =
-    let e : scratch + ((lent + 8) + (lent + 8) + lent) ≡ scratch + (lent + 8) + (lent + 8) + lent = omega arith in
-    rw e at (same-high E ((lent + 8) + (lent + 8) + lent) 3 (omega arith))
+    let e : scratch + (stride lent + stride lent + lent) ≡ sides-at lent scratch = omega arith in
+    rw e at (same-high E (stride lent + stride lent + lent) 3 (omega arith))
 
 module _ {arities l : List ℕ} {at : ℕ} {rest : Rest} {sides : Sides} {kind : Tails} {first second lent next scratch most : ℕ} {p : Parent} where
   pub none-passed : Picks arities l at rest sides kind first second lent next scratch most p → Passed arities l at rest sides kind first second lent next scratch most p l 0
@@ -82,7 +83,7 @@ module _ {arities l : List ℕ} {at : ℕ} {rest : Rest} {sides : Sides} {kind :
     q = again p (P .on .ds) (P .on .es)
 
     abbrev to : ℕ
-    to = at + (lent + 8)
+    to = at + stride lent
 
     pub due : k < most → Due arities r at rest sides to lent next scratch q
     due h = record { opened = P .on .here .opened; after = omega arith; before = P .on .here .child (omega arith) }
@@ -160,7 +161,7 @@ module _ {arities l : List ℕ} {at : ℕ} {rest : Rest} {sides : Sides} {kind :
         below : seg r″ 0 to ≡ seg l 0 to
         below = let N = numbers (still E .opened) in advanced-before (still E) A 0 to (omega arith) ∙ E .low ∙ P .below
 
-        told : seg r″ (scratch + (lent + 8) + (lent + 8) + lent) 3 ≡ seg l (scratch + (lent + 8) + (lent + 8) + lent) 3
+        told : seg r″ (sides-at lent scratch) 3 ≡ seg l (sides-at lent scratch) 3
         told = advanced-told (still E) A ∙ same-told E ∙ P .told
 
         pub told-spent : more ≡ false → Picked arities l at rest sides kind first second lent next scratch most p (Spent (k + 1)) r″
@@ -214,10 +215,10 @@ module _ {arities l : List ℕ} {at : ℕ} {rest : Rest} {sides : Sides} {kind :
     first-due e = told-due (none-passed P) (omega arith)
 
     module _ (h : 0 < most) where
-      pub first-asked : ChildParts arities l at rest sides kind (at + (lent + 8)) lent next scratch
+      pub first-asked : ChildParts arities l at rest sides kind (at + stride lent) lent next scratch
       first-asked = child-parts (none-passed P) h
 
-      module _ {a : Made} {r : List ℕ} (M : ChildMade arities l at rest sides kind (at + (lent + 8)) lent next scratch a r) where
+      module _ {a : Made} {r : List ℕ} (M : ChildMade arities l at rest sides kind (at + stride lent) lent next scratch a r) where
         pub first-node : (node : Reached) → a ≡ of-reached node → Picked arities l at rest sides kind first second lent next scratch most p (Found 0 node) r
         first-node = told-node (none-passed P) h M
 

@@ -16,7 +16,7 @@ use Rattle.search.specs.Classify.{tails-by, tails, classify}
 use Rattle.search.specs.StepView.{Stepped, splits, stepped}
 use Rattle.terms.specs.Term.{Term, with, members, kernel}
 use Rattle.terms.specs.Shape.{is-unknown, number}
-use Rattle.turns.specs.Picking.{radix}
+use Rattle.search_laws.specs.Picking.{radix}
 use Rattle.pick_loop.specs.PicksInScratch.{left-open, right-open}
 
 -- ---- by the tag

@@ -6,6 +6,8 @@ use native.Mathlib.Omega.{arith}
 use lib.ListN.{length, length-append}
 use Rattle.room.specs.Room.{seg, put, length-put, seg-put-same}
 use Rattle.room.specs.Parts.{earlier, later, seg-put}
+use Rattle.room.specs.Layout.{HEADER, stride, right-row, picks-row}
+use Rattle.search.specs.RunLimits.{most-size}
 use Rattle.rows.specs.declared.parts.Rest.{Rest}
 use Rattle.choices.specs.declared.sides.Sides.{Sides}
 use Rattle.choices.specs.OpenParent.{Parent, Opened, few-members}
@@ -13,16 +15,16 @@ use Rattle.pick_loop.specs.PicksInScratch.{again}
 
 -- the numbers, for `omega`
 pub record Numbers (l : List ℕ) (at : ℕ) (sides : Sides) (lent scratch : ℕ) : Type 0 where
-  pub row : at + (lent + 8) ≤ scratch
-  pub space : scratch + 7 * (lent + 8) ≤ length l
-  pub lent-small : lent ≤ 8192
+  pub row : at + stride lent ≤ scratch
+  pub space : scratch + 7 * stride lent ≤ length l
+  pub lent-small : lent ≤ most-size
   pub small : length l < 2 ^ 32
   pub few : sides .n + sides .m < sides .end
   pub end-below : sides .end ≤ lent
 
 module _ {arities l : List ℕ} {at : ℕ} {rest : Rest} {sides : Sides} {lent next scratch : ℕ} {p : Parent} (S : Opened arities l at rest sides lent next scratch p) where
   abbrev pub picks : ℕ
-  picks = scratch + (lent + 8) + (lent + 8)
+  picks = picks-row lent scratch
 
   pub numbers : Numbers l at sides lent scratch
   numbers = record {
@@ -62,7 +64,7 @@ module _ {arities l : List ℕ} {at : ℕ} {rest : Rest} {sides : Sides} {lent n
           few = S .few;
           next-is = S .next-is;
           bindings-small = S .bindings-small;
-          sides-stand = same-before (at + 8) (sides .end) (omega arith) ∙ S .sides-stand;
+          sides-stand = same-before (at + HEADER) (sides .end) (omega arith) ∙ S .sides-stand;
           rested = record {
             pending = same-before (rest .at) (rest .pending) (omega (arith, S .fits, S .rest-at)) ∙ R .pending;
             pile = same-before (rest .at + rest .pending) (rest .pile) (omega (arith, S .fits, S .rest-at)) ∙ R .pile;
@@ -78,7 +80,7 @@ module _ {arities l : List ℕ} {at : ℕ} {rest : Rest} {sides : Sides} {lent n
           s-is = S .s-is;
           r-is = S .r-is;
           t-noted = same-before scratch (sides .n + 1) (omega arith) ∙ S .t-noted;
-          u-noted = same-before (scratch + (lent + 8)) (sides .m + 1) (omega arith) ∙ S .u-noted;
+          u-noted = same-before (right-row lent scratch) (sides .m + 1) (omega arith) ∙ S .u-noted;
           picked = ap (seg r picks) (sym many) ∙ rw e (seg-put-same out l picks (omega arith)) ∙ w;
           ds-many = a;
           es-many = b;

@@ -5,6 +5,7 @@ use mathlib.Core.Bool.{Bool, true, false}
 use mathlib.Core.List.{List}
 use lib.ListN.{length, drop}
 use Rattle.room.specs.Room.{seg}
+use Rattle.room.specs.Layout.{stride, sides-at}
 use Rattle.terms.specs.Term.{members, kernel}
 use Rattle.terms.specs.Shape.{is-unknown}
 use Rattle.search.specs.State.{Node, dead}
@@ -12,10 +13,11 @@ use Rattle.search.specs.Classify.{tails}
 use Rattle.search.specs.Children.{split}
 use Rattle.search.specs.declared.steps.Tails.{Tails}
 use Rattle.search.specs.declared.steps.Tails.the-variants.{Neither, Left, Right, Different, Same}
+use Rattle.search.specs.RunLimits.{most-steps}
 use Rattle.rows.specs.declared.parts.Rest.{Rest}
 use Rattle.rows.specs.declared.parts.Reached.the-variants.{Live}
-use Rattle.turns.specs.ChoiceNumbers.{Digits}
-use Rattle.turns.specs.Picking.{radix, child-number}
+use Rattle.search_laws.specs.ChoiceNumbers.{Digits}
+use Rattle.search_laws.specs.Picking.{radix, child-number}
 use Rattle.choices.specs.declared.sides.Sides.{Sides}
 use Rattle.choices.specs.Digits.{copies}
 use Rattle.choices.specs.OpenParent.{Parent, Opened}
@@ -54,8 +56,8 @@ pub record Picks (arities l : List ℕ) (at : ℕ) (rest : Rest) (sides : Sides)
   pub second-is : second ≡ radix (is-unknown (kernel (p .t))) (length (members (p .t)))
   pub proper-t : Digits (copies (sides .n) first) (p .ds)
   pub proper-u : Digits (copies (sides .m) second) (p .es)
-  pub child : 0 < most → at + (lent + 8) + (lent + 8) ≤ scratch
-  pub most-small : most ≤ 1000000000
+  pub child : 0 < most → at + stride lent + stride lent ≤ scratch
+  pub most-small : most ≤ most-steps
 
 pub record PicksAt (arities l : List ℕ) (at : ℕ) (rest : Rest) (sides : Sides) (kind : Tails) (first second lent next scratch most : ℕ) : Type 0 where
   pub p : Parent
@@ -87,7 +89,7 @@ pub record Further (arities l : List ℕ) (at : ℕ) (rest : Rest) (sides : Side
 -- the rows up to the parent's and the numbers after the picks are as they were; where a child was opened, the picks are its own
 pub record Picked (arities l : List ℕ) (at : ℕ) (rest : Rest) (sides : Sides) (kind : Tails) (first second lent next scratch most : ℕ) (p : Parent) (a : Next) (r : List ℕ) : Type 0 where
   pub long : length r ≡ length l
-  pub below : seg r 0 (at + (lent + 8)) ≡ seg l 0 (at + (lent + 8))
-  pub told : seg r (scratch + (lent + 8) + (lent + 8) + lent) 3 ≡ seg l (scratch + (lent + 8) + (lent + 8) + lent) 3
-  pub tells : Tells l (at + (lent + 8)) lent (drop (place p) (all-children p)) most r a
+  pub below : seg r 0 (at + stride lent) ≡ seg l 0 (at + stride lent)
+  pub told : seg r (sides-at lent scratch) 3 ≡ seg l (sides-at lent scratch) 3
+  pub tells : Tells l (at + stride lent) lent (drop (place p) (all-children p)) most r a
   pub further : (k : ℕ) → a ≡ Found k Live → Further arities r at rest sides kind first second lent next scratch most p k

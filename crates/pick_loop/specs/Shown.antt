@@ -7,6 +7,7 @@ use mathlib.Core.Bool.{true, false}
 use native.Mathlib.Omega.{arith}
 use lib.ListN.{length}
 use Rattle.room.specs.Room.{seg}
+use Rattle.room.specs.Layout.{stride, right-row, picks-row, sides-at}
 use Rattle.terms.specs.Term.{members, kernel, size}
 use Rattle.terms.specs.Shape.{is-unknown}
 use Rattle.terms.specs.Formed.{Equation}
@@ -15,10 +16,10 @@ use Rattle.search.specs.Classify.{classify}
 use Rattle.search.specs.declared.steps.Tails.{Tails}
 use Rattle.search.specs.declared.steps.Step.the-variants.{Split}
 use Rattle.rows.specs.declared.parts.Reached.the-variants.{Live}
-use Rattle.turns.specs.ChoiceNumbers.{Digits}
-use Rattle.turns.specs.Picking.{radix}
+use Rattle.search_laws.specs.ChoiceNumbers.{Digits}
+use Rattle.search_laws.specs.Picking.{radix}
 use Rattle.choices.specs.Digits.{copies}
-use Rattle.choices.specs.Places.{places}
+use Rattle.choices.specs.MemberPlaces.{places}
 use Rattle.choices.specs.OpenParent.{few-members}
 use Rattle.only_child.specs.declared.next.Next.{Next}
 use Rattle.only_child.specs.declared.next.Next.the-variants.{Node as Found}
@@ -37,11 +38,11 @@ pub record Shown (l : List ℕ) (lent scratch : ℕ) (st : State) (last : ℕ) :
   pub step-is : classify (first .left) (first .right) ≡ Split kind
   pub last-is : place (record { t = first .left; u = first .right; st = pend others st; ds = ds; es = es }) ≡ last
   pub t-noted : seg l scratch (length (members (first .left)) + 1) ≡ places (first .left) 0
-  pub u-noted : seg l (scratch + (lent + 8)) (length (members (first .right)) + 1) ≡ places (first .right) (size (first .left))
-  pub picked : seg l (scratch + (lent + 8) + (lent + 8)) (length (members (first .left)) + length (members (first .right))) ≡ ds ++ es
+  pub u-noted : seg l (right-row lent scratch) (length (members (first .right)) + 1) ≡ places (first .right) (size (first .left))
+  pub picked : seg l (picks-row lent scratch) (length (members (first .left)) + length (members (first .right))) ≡ ds ++ es
   pub ds-proper : Digits (copies (length (members (first .left))) (radix (is-unknown (kernel (first .right))) (length (members (first .right))))) ds
   pub es-proper : Digits (copies (length (members (first .right))) (radix (is-unknown (kernel (first .left))) (length (members (first .left))))) es
-  pub told : seg l (scratch + (lent + 8) + (lent + 8) + lent) 3
+  pub told : seg l (sides-at lent scratch) 3
       ≡ length (members (first .left)) ∷ length (members (first .right)) ∷ (size (first .left) + size (first .right)) ∷ []
 
 -- where a child was opened, the split stands open with that child's picks
@@ -52,7 +53,7 @@ pub record Leaves (r : List ℕ) (lent scratch : ℕ) (st : State) (number : ℕ
 pub record Looks (l : List ℕ) (at number lent scratch most : ℕ) (st : State) (a : Looked) (r : List ℕ) : Type 0 where
   pub child : Child l at number lent most st (a .next) r
   pub opens : a .opens ≡ true → Leaves r lent scratch st number (a .next)
-  pub keeps : a .opens ≡ false → seg r scratch (3 * (lent + 8)) ≡ seg l scratch (3 * (lent + 8))
+  pub keeps : a .opens ≡ false → seg r scratch (3 * stride lent) ≡ seg l scratch (3 * stride lent)
 
 -- what is told of a split's children; where one was opened, the split stands open
 pub record Opens (l : List ℕ) (at number lent scratch most : ℕ) (st : State) (a : Next) (r : List ℕ) : Type 0 where
@@ -77,15 +78,15 @@ unfolding state-size size-equations
 sides-fit lent st cut h =
     let f : size-equations (st .pending) + size-named (st .pile) + size-named (st .bindings) ≤ lent = h in omega (arith, ap size-equations cut)
 
-pub shown-kept : {l r : List ℕ} {lent scratch : ℕ} {st : State} {last : ℕ} → seg r scratch (3 * (lent + 8)) ≡ seg l scratch (3 * (lent + 8)) → state-size st ≤ lent → Shown l lent scratch st last
+pub shown-kept : {l r : List ℕ} {lent scratch : ℕ} {st : State} {last : ℕ} → seg r scratch (3 * stride lent) ≡ seg l scratch (3 * stride lent) → state-size st ≤ lent → Shown l lent scratch st last
     → Shown r lent scratch st last
 shown-kept {l} {r} {lent} {scratch} {st} same fits S =
     let few = sides-fit lent st (S .cut) fits in
     let many = few-members (S .first .left) in
     let more = few-members (S .first .right) in
     let first : scratch + 0 ≡ scratch = omega arith in
-    let third : scratch + ((lent + 8) + (lent + 8)) ≡ scratch + (lent + 8) + (lent + 8) = omega arith in
-    let after : scratch + ((lent + 8) + (lent + 8) + lent) ≡ scratch + (lent + 8) + (lent + 8) + lent = omega arith in
+    let third : scratch + (stride lent + stride lent) ≡ picks-row lent scratch = omega arith in
+    let after : scratch + (stride lent + stride lent + lent) ≡ sides-at lent scratch = omega arith in
     record {
       first = S .first;
       others = S .others;
@@ -96,12 +97,12 @@ shown-kept {l} {r} {lent} {scratch} {st} same fits S =
       step-is = S .step-is;
       last-is = S .last-is;
       t-noted = rw first at (part 0 (length (members (S .first .left)) + 1) (omega arith)) ∙ S .t-noted;
-      u-noted = part (lent + 8) (length (members (S .first .right)) + 1) (omega arith) ∙ S .u-noted;
-      picked = rw third at (part ((lent + 8) + (lent + 8)) (length (members (S .first .left)) + length (members (S .first .right))) (omega arith)) ∙ S .picked;
+      u-noted = part (stride lent) (length (members (S .first .right)) + 1) (omega arith) ∙ S .u-noted;
+      picked = rw third at (part (stride lent + stride lent) (length (members (S .first .left)) + length (members (S .first .right))) (omega arith)) ∙ S .picked;
       ds-proper = S .ds-proper;
       es-proper = S .es-proper;
-      told = rw after at (part ((lent + 8) + (lent + 8) + lent) 3 (omega arith)) ∙ S .told;
+      told = rw after at (part (stride lent + stride lent + lent) 3 (omega arith)) ∙ S .told;
     }
   where
-    part : (i j : ℕ) → i + j ≤ 3 * (lent + 8) → seg r (scratch + i) j ≡ seg l (scratch + i) j
-    part i j h = same-part l r scratch (3 * (lent + 8)) i j h same
+    part : (i j : ℕ) → i + j ≤ 3 * stride lent → seg r (scratch + i) j ≡ seg l (scratch + i) j
+    part i j h = same-part l r scratch (3 * stride lent) i j h same

@@ -4,7 +4,7 @@ ghost use Rattle.pick_loop.specs.PicksInScratch.{Picks, PicksAt, Ended, 
 use choices::picks::advance;
 use choices::sides::Sides;
 use only_child::next::Next;
-use rows::header::HEADER;
+use room::layout::HEADER;
 use rows::parts::Made;
 use rows::parts::Reached;
 use rows::parts::Rest;

@@ -1,7 +1,7 @@
 // How many picks a member of a split has.
 ghost use mathlib.Core.Path.{_≡_};
 ghost use Prim.Native.Nat.{_<_};
-ghost use Rattle.turns.specs.Picking.{radix};
+ghost use Rattle.search_laws.specs.Picking.{radix};
 ghost use Rattle.pick_loop.specs.PicksInScratch.{left-open, right-open};
 use search::steps::Tails;
 

@@ -7,12 +7,12 @@ use native.Mathlib.Omega.{arith}
 use lib.ListN.{length, take, drop, getD, set, length-set}
 use Rattle.room.specs.Room.{seg, put, length-put, length-seg, put-more, seg-put-same}
 use Rattle.room.specs.Parts.{CopyParts, apart-part}
-use Rattle.terms.specs.Bounds.{edition-one, edition-one-proper}
+use Rattle.terms.specs.Bounds.{edition-one, edition-one-proper, PATH-UNKNOWNS, FIRST-UNKNOWN}
 use Rattle.rows.specs.declared.parts.Rest.{Rest}
 use Rattle.rows.specs.declared.parts.Made.{Made}
 use Rattle.rows.specs.declared.parts.Made.the-variants.{Dead, Names}
 use Rattle.rows.specs.Header.{header-of}
-use Rattle.rows.specs.Flat.{holds}
+use Rattle.rows.specs.HeldWords.{holds}
 use Rattle.rows.specs.Bind.{FinishParts, pile-piece, last-piece}
 use Rattle.rows.specs.Finished.{Finished, bound-header}
 use Rattle.plain_steps.specs.Join.{gathered, length-gathered}
@@ -62,7 +62,7 @@ module _ (arities : List ℕ) {r₀ : List ℕ} {rest : Rest} {value to size nex
           live = λ h l. absurd (false≢true (sym h ∙ t));
         }
 
-    pub joined-names : {c : Bool} → c ≡ holds x (take (value + m - value) (drop value r)) → c ≡ false → 512 ≤ next → Joined arities r₀ rest value to size next Names r
+    pub joined-names : {c : Bool} → c ≡ holds x (take (value + m - value) (drop value r)) → c ≡ false → PATH-UNKNOWNS ≤ next → Joined arities r₀ rest value to size next Names r
     unfolding joining-word joining-words
     joined-names p q l =
         let t = told-false p q in
@@ -72,14 +72,14 @@ module _ (arities : List ℕ) {r₀ : List ℕ} {rest : Rest} {value to size nex
           live = λ h k. absurd (omega arith);
         }
 
-    laid : set r (value + m) (1000 + next) ≡ valued arities r₀ rest value next
+    laid : set r (value + m) (FIRST-UNKNOWN + next) ≡ valued arities r₀ rest value next
     unfolding valued joining-words joining-word
-    laid = rw (f, e) (put-more r₀ value G (1000 + next))
+    laid = rw (f, e) (put-more r₀ value G (FIRST-UNKNOWN + next))
 
-    pub value-long : length (set r (value + m) (1000 + next)) ≡ length r₀
-    value-long = length-set r (value + m) (1000 + next) ∙ long
+    pub value-long : length (set r (value + m) (FIRST-UNKNOWN + next)) ≡ length r₀
+    value-long = length-set r (value + m) (FIRST-UNKNOWN + next) ∙ long
 
-    pub join-parts : next < 512 → FinishParts (set r (value + m) (1000 + next)) rest value (m + 1) to 0 size x (next + 1)
+    pub join-parts : next < PATH-UNKNOWNS → FinishParts (set r (value + m) (FIRST-UNKNOWN + next)) rest value (m + 1) to 0 size x (next + 1)
     join-parts l = record {
       parts = record {
         rest-within = rw value-long (P .parts .rest-within);
@@ -96,10 +96,10 @@ module _ (arities : List ℕ) {r₀ : List ℕ} {rest : Rest} {value to size nex
       next-small = omega arith;
     }
 
-    pub joined-live : {c : Bool} → c ≡ holds x (take (value + m - value) (drop value r)) → c ≡ false → next < 512 → {a : Made} {r′ : List ℕ}
-        → Finished (set r (value + m) (1000 + next)) to 0 size
-        (pile-piece edition-one arities (set r (value + m) (1000 + next)) rest x value (m + 1) ++ last-piece (set r (value + m) (1000 + next)) rest x value (m + 1))
-        (header-of (bound-header rest 0 (length (pile-piece edition-one arities (set r (value + m) (1000 + next)) rest x value (m + 1))) (m + 1) (next + 1))) a r′
+    pub joined-live : {c : Bool} → c ≡ holds x (take (value + m - value) (drop value r)) → c ≡ false → next < PATH-UNKNOWNS → {a : Made} {r′ : List ℕ}
+        → Finished (set r (value + m) (FIRST-UNKNOWN + next)) to 0 size
+        (pile-piece edition-one arities (set r (value + m) (FIRST-UNKNOWN + next)) rest x value (m + 1) ++ last-piece (set r (value + m) (FIRST-UNKNOWN + next)) rest x value (m + 1))
+        (header-of (bound-header rest 0 (length (pile-piece edition-one arities (set r (value + m) (FIRST-UNKNOWN + next)) rest x value (m + 1))) (m + 1) (next + 1))) a r′
         → Joined arities r₀ rest value to size next a r′
     unfolding joining-word joining-words
     joined-live p q l F =

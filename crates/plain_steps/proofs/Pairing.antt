@@ -7,7 +7,8 @@ use native.Mathlib.Numerals.{add-one}
 use lib.ListN.{length, take, drop, set, length-append, length-set}
 use Rattle.room.specs.Room.{seg, put, Within, length-put, length-seg, put-nil, take-seg, drop-seg}
 use Rattle.room.specs.Parts.{Apart, CopyParts, apart-part, seg-put, seg-set}
-use Rattle.terms.specs.Bounds.{edition-one}
+use Rattle.room.specs.Layout.{HEADER}
+use Rattle.terms.specs.Bounds.{edition-one, FIRST-UNKNOWN}
 use Rattle.terms.specs.Walk.{span-le}
 use Rattle.rows.specs.declared.parts.Rest.{Rest}
 use Rattle.rows.specs.declared.first.Subject.{Subject}
@@ -35,7 +36,7 @@ module _ {r₀ : List ℕ} {rest : Rest} {s : Subject} {entry to size next : ℕ
     pub postpone-long : length r ≡ length r₀
     postpone-long = ap length e ∙ length-put (set r₀ entry (s .x)) (entry + 1) (seg (set r₀ entry (s .x)) (s .by) (s .m)) ∙ length-set r₀ entry (s .x)
 
-    pub postpone-parts : FinishParts r rest entry (s .m + 1) to 0 size 1000 next
+    pub postpone-parts : FinishParts r rest entry (s .m + 1) to 0 size FIRST-UNKNOWN next
     postpone-parts = finish-long (P .parts) postpone-long
 
 -- ---- one of each side
@@ -216,10 +217,10 @@ module _ (arities : List ℕ) {r₀ : List ℕ} {rest : Rest} (k : ℕ) {left n 
   arguments-within =
       omega (arith, length-paired edition-one arities k (seg r₀ left n) (seg r₀ right m), length-seg r₀ left n (P .pairs .left-within), length-seg r₀ right m (P .pairs .right-within), P .fits)
 
-  module _ {w : ℕ} {r : List ℕ} (e : w ≡ length arguments) (f : r ≡ put r₀ (to + 8) arguments) where
-    pub decompose-parts : FinishParts r rest left 0 to w size 1000 next
+  module _ {w : ℕ} {r : List ℕ} (e : w ≡ length arguments) (f : r ≡ put r₀ (to + HEADER) arguments) where
+    pub decompose-parts : FinishParts r rest left 0 to w size FIRST-UNKNOWN next
     decompose-parts =
-        let F = finish-long (P .parts) (ap length f ∙ length-put r₀ (to + 8) arguments) in
+        let F = finish-long (P .parts) (ap length f ∙ length-put r₀ (to + HEADER) arguments) in
         record {
           parts = F .parts;
           written-within = rw e arguments-within;

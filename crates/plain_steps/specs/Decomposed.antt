@@ -7,7 +7,8 @@ use lib.ListN.{length, drop, getD}
 use lib.Seq.{take-at, drop-at}
 use Rattle.room.specs.Room.{seg, put, length-put, length-seg, seg-zero, seg-put-same, drop-seg}
 use Rattle.room.specs.Parts.{earlier, later}
-use Rattle.terms.specs.Bounds.{Bounds, edition-one}
+use Rattle.room.specs.Layout.{HEADER}
+use Rattle.terms.specs.Bounds.{Bounds, edition-one, FIRST-UNKNOWN}
 use Rattle.terms.specs.Kind.{Worded}
 use Rattle.terms.specs.Term.{Terms, functor, words, words*, size, size*, list, count}
 use Rattle.terms.specs.Formed.{Equation, Formed, Formed*, formed-functor, formed-none, formed-more, row, sides}
@@ -65,18 +66,18 @@ pub decompose-beside : (arities : List ℕ) (c : ℕ) {l : List ℕ} {rest : Res
     → Finished (decomposed edition-one arities l c left n right m to) to written lent piece header a r → Beside l r to lent aside
 unfolding decomposed
 decompose-beside arities c {l} {left = left} {n} {right} {m} {to} P F =
-    beside-put (to + 8) (paired edition-one arities c (seg l left n) (seg l right m)) (later (omega (arith, P .fits, length-arguments arities c (P .pairs)))) (finished-beside F)
+    beside-put (to + HEADER) (paired edition-one arities c (seg l left n) (seg l right m)) (later (omega (arith, P .fits, length-arguments arities c (P .pairs)))) (finished-beside F)
 
 module _ {arities r₀ : List ℕ} {from to scratch lent : ℕ} {st : State} (H : Held arities r₀ from to scratch lent st) {e : Equation} {es : List Equation} (cut : st .pending ≡ e ∷ es)
     {k : ℕ} {ts us : Terms} (p : e .left ≡ functor k ts) (q : e .right ≡ functor k us) where
   abbrev left : ℕ
-  left = from + 8 + 1
+  left = from + HEADER + 1
 
   abbrev n : ℕ
   n = size (e .left) - 1
 
   abbrev right : ℕ
-  right = from + 8 + size (e .left) + 1
+  right = from + HEADER + size (e .left) + 1
 
   abbrev m : ℕ
   m = size (e .left) + size (e .right) - size (e .left) - 1
@@ -96,13 +97,13 @@ module _ {arities r₀ : List ℕ} {from to scratch lent : ℕ} {st : State} (H 
   unfolding words
   left-arguments =
       let z = left-size in
-      sym (drop-seg r₀ (from + 8) (size (e .left)) 1 (omega arith)) ∙ ap (drop 1) (left-stands (H .holds) cut ∙ ap (words edition-one) p)
+      sym (drop-seg r₀ (from + HEADER) (size (e .left)) 1 (omega arith)) ∙ ap (drop 1) (left-stands (H .holds) cut ∙ ap (words edition-one) p)
 
   right-arguments : seg r₀ right m ≡ words* edition-one us
   unfolding words
   right-arguments =
       let z = right-size in
-      rw m-is (sym (drop-seg r₀ (from + 8 + size (e .left)) (size (e .right)) 1 (omega arith)) ∙ ap (drop 1) (right-stands (H .holds) cut ∙ ap (words edition-one) q))
+      rw m-is (sym (drop-seg r₀ (from + HEADER + size (e .left)) (size (e .right)) 1 (omega arith)) ∙ ap (drop 1) (right-stands (H .holds) cut ∙ ap (words edition-one) q))
 
   left-formed : Formed* arities (st .next) ts × (count ts ≡ getD arities k 0)
   left-formed = inside (rw p at (first-formed (H .sound) cut .0))
@@ -137,7 +138,7 @@ module _ {arities r₀ : List ℕ} {from to scratch lent : ℕ} {st : State} (H 
           small = r .small;
         };
         fits = omega arith;
-        parts = single-parts H cut (omega arith) (earlier (omega arith)) 0 1000 (omega arith) (omega arith);
+        parts = single-parts H cut (omega arith) (earlier (omega arith)) 0 FIRST-UNKNOWN (omega arith) (omega arith);
       }
 
   module _ {c : ℕ} (arity : c ≡ getD arities k 0) where
@@ -167,8 +168,8 @@ module _ {arities r₀ : List ℕ} {from to scratch lent : ℕ} {st : State} (H 
         let D = decompose-first-parts in
         let l = length-P in
         let written : length P ≤ lent = omega (arith, D .fits) in
-        let G = finish-long (D .parts) (length-put r₀ (to + 8) P) in
-        let parts : FinishParts (put r₀ (to + 8) P) (rest H cut) left 0 to (length P) lent 1000 (st .next) = record {
+        let G = finish-long (D .parts) (length-put r₀ (to + HEADER) P) in
+        let parts : FinishParts (put r₀ (to + HEADER) P) (rest H cut) left 0 to (length P) lent FIRST-UNKNOWN (st .next) = record {
           parts = G .parts;
           written-within = written;
           size-small = G .size-small;
@@ -176,8 +177,8 @@ module _ {arities r₀ : List ℕ} {from to scratch lent : ℕ} {st : State} (H 
           bindings-small = G .bindings-small;
           next-small = G .next-small;
         } in
-        let none : Piled (put r₀ (to + 8) P) left 0 [] = record { piled = seg-zero (put r₀ (to + 8) P) left ∙ none-piled } in
-        makes-after (to + 8) P (omega arith)
+        let none : Piled (put r₀ (to + HEADER) P) left 0 [] = record { piled = seg-zero (put r₀ (to + HEADER) P) left ∙ none-piled } in
+        makes-after (to + HEADER) P (omega arith)
         (rw append-nil at
-        (keep-makes (rested-put (rest-stands H cut) (to + 8) P (earlier (omega (arith, rest-bound H cut)))) none parts ds
-        (seg-put-same P r₀ (to + 8) (omega (arith, D .pairs .to-within)) ∙ arguments-are) F (few H cut)))
+        (keep-makes (rested-put (rest-stands H cut) (to + HEADER) P (earlier (omega (arith, rest-bound H cut)))) none parts ds
+        (seg-put-same P r₀ (to + HEADER) (omega (arith, D .pairs .to-within)) ∙ arguments-are) F (few H cut)))

@@ -21,7 +21,7 @@ use Rattle.search.specs.Children.{entries, joined}
 use Rattle.rows.specs.Ended.{term-end}
 use Rattle.rows.specs.Stripped.{stripped, kernel-at, kernel-at-words, kernel-place}
 use Rattle.rows.specs.Pile.{kept}
-use Rattle.rows.specs.Members.{member-words, members-append, take-members, length-members, words-members}
+use Rattle.rows.specs.MemberWords.{member-words, members-append, take-members, length-members, words-members}
 
 -- at most so many entries are read
 unfoldable pub gathered : Bounds → List ℕ → ℕ → ℕ → List ℕ → List ℕ

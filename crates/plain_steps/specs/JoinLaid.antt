@@ -6,23 +6,25 @@ use mathlib.Core.Bool.{true, false}
 use lib.ListN.{length, getD}
 use Rattle.room.specs.Room.{seg, put}
 use Rattle.room.specs.Parts.{Apart}
-use Rattle.terms.specs.Bounds.{edition-one}
+use Rattle.room.specs.Layout.{HEADER}
+use Rattle.terms.specs.Bounds.{edition-one, FIRST-UNKNOWN, PATH-UNKNOWNS}
+use Rattle.search.specs.RunLimits.{most-size}
 use Rattle.rows.specs.declared.parts.Rest.{Rest}
 use Rattle.rows.specs.declared.parts.Made.{Made}
 use Rattle.rows.specs.declared.parts.Made.the-variants.{Dead, Names}
 use Rattle.rows.specs.Header.{header-of}
-use Rattle.rows.specs.Flat.{holds}
+use Rattle.rows.specs.HeldWords.{holds}
 use Rattle.rows.specs.Bind.{BindParts, pile-piece, last-piece}
 use Rattle.rows.specs.Finished.{Finished, bound-header}
 use Rattle.plain_steps.specs.Join.{gathered}
 
 pub record JoinParts (l : List ℕ) (rest : Rest) (value to size next : ℕ) : Type 0 where
-  pub parts : BindParts l rest value (rest .pile + 1) to (8 + size)
+  pub parts : BindParts l rest value (rest .pile + 1) to (HEADER + size)
   pub value-apart : Apart (rest .at) (rest .pending + rest .pile + rest .bound) value (rest .pile + 1)
   pub nothing : rest .pending ≡ 0
   pub something : 0 < rest .pile
-  pub unknown : 1000 ≤ getD l (rest .at) 0
-  pub size-small : size ≤ 8192
+  pub unknown : FIRST-UNKNOWN ≤ getD l (rest .at) 0
+  pub size-small : size ≤ most-size
   pub bindings-small : rest .bindings < 65535
   pub next-small : next < 65535
 
@@ -35,12 +37,12 @@ joining-words arities r rest = gathered edition-one arities (joining-word r rest
 
 -- the room with the value laid out
 unfoldable pub valued : (arities r : List ℕ) → Rest → (value next : ℕ) → List ℕ
-valued arities r rest value next = put r value (joining-words arities r rest ++ ((1000 + next) ∷ []))
+valued arities r rest value next = put r value (joining-words arities r rest ++ ((FIRST-UNKNOWN + next) ∷ []))
 
 pub record Joined (arities r₀ : List ℕ) (rest : Rest) (value to size next : ℕ) (a : Made) (r : List ℕ) : Type 0 where
   pub dead : holds (joining-word r₀ rest) (joining-words arities r₀ rest) ≡ true → (a ≡ Dead) × (r ≡ put r₀ value (joining-words arities r₀ rest))
-  pub names : holds (joining-word r₀ rest) (joining-words arities r₀ rest) ≡ false → 512 ≤ next → (a ≡ Names) × (r ≡ put r₀ value (joining-words arities r₀ rest))
-  pub live : holds (joining-word r₀ rest) (joining-words arities r₀ rest) ≡ false → next < 512
+  pub names : holds (joining-word r₀ rest) (joining-words arities r₀ rest) ≡ false → PATH-UNKNOWNS ≤ next → (a ≡ Names) × (r ≡ put r₀ value (joining-words arities r₀ rest))
+  pub live : holds (joining-word r₀ rest) (joining-words arities r₀ rest) ≡ false → next < PATH-UNKNOWNS
       → Finished (valued arities r₀ rest value next) to 0 size
       (pile-piece edition-one arities (valued arities r₀ rest value next) rest (joining-word r₀ rest) value (length (joining-words arities r₀ rest) + 1)
       ++ last-piece (valued arities r₀ rest value next) rest (joining-word r₀ rest) value (length (joining-words arities r₀ rest) + 1))

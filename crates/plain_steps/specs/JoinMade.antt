@@ -10,7 +10,8 @@ use lib.ListN.{length, getD, length-append}
 use borrow.Author.Tests.{lt-ltb}
 use Rattle.room.specs.Room.{seg, put, length-put, seg-put-same, getD-seg}
 use Rattle.room.specs.Parts.{earlier, later, seg-put}
-use Rattle.terms.specs.Bounds.{edition-one, edition-one-proper, edition-one-unknowns-first}
+use Rattle.room.specs.Layout.{stride}
+use Rattle.terms.specs.Bounds.{edition-one, edition-one-proper, edition-one-unknowns-first, FIRST-UNKNOWN, PATH-UNKNOWNS}
 use Rattle.terms.specs.Lists.{All, both, any, cases}
 use Rattle.terms.specs.Term.{Term, unknown, words, size, occurs, over}
 use Rattle.terms.specs.Answers.{Named, pile-words}
@@ -23,9 +24,9 @@ use Rattle.rows.specs.declared.parts.Rest.{Rest}
 use Rattle.rows.specs.declared.parts.Made.{Made}
 use Rattle.rows.specs.declared.parts.Made.the-variants.{Dead, Names, Live}
 use Rattle.rows.specs.Bind.{FinishParts}
-use Rattle.rows.specs.Flat.{holds}
+use Rattle.rows.specs.HeldWords.{holds}
 use Rattle.rows.specs.Finished.{finish-long}
-use Rattle.rows.specs.Members.{member-words, words-over, holds-members}
+use Rattle.rows.specs.MemberWords.{member-words, words-over, holds-members}
 use Rattle.plain_steps.specs.Join.{gathered-pile, length-gathered}
 use Rattle.plain_steps.specs.JoinLaid.{JoinParts, joining-word, joining-words, valued, Joined}
 use Rattle.rows.specs.Row.{Rested, Makes, Beside, beside-same, beside-aside, finished-beside, header-for, becomes}
@@ -82,7 +83,7 @@ module _ {arities r₀ : List ℕ} {from to scratch lent : ℕ} {st : State} (H 
       first-name : All (λ n. n .name < st .next) (n₀ ∷ ns) → n₀ .name < st .next
       first-name (both h hs) = h
 
-  word-is : joining-word r₀ rest ≡ 1000 + x
+  word-is : joining-word r₀ rest ≡ FIRST-UNKNOWN + x
   unfolding joining-word pile-words edition-one
   word-is =
       let p : rest .at + 0 ≡ rest .at = omega arith in
@@ -112,18 +113,18 @@ module _ {arities r₀ : List ℕ} {from to scratch lent : ℕ} {st : State} (H 
   unfolding size-equations
   rest-before = rest-room H [] [] quiet
 
-  rest-parts : (m : ℕ) → m ≤ rest .pile + 1 → (w next : ℕ) → 1000 ≤ w → next < 65536 → FinishParts r₀ rest scratch m to 0 lent w next
+  rest-parts : (m : ℕ) → m ≤ rest .pile + 1 → (w next : ℕ) → FIRST-UNKNOWN ≤ w → next < 65536 → FinishParts r₀ rest scratch m to 0 lent w next
   unfolding size-equations
   rest-parts m h w next u n =
       finish-parts H [] [] quiet (omega (arith, pile-fits, H .rows .scratch-rows)) (later (omega (arith, H .rows .next-row))) 0 w next (omega arith) u n
 
-  unknown-first : 1000 ≤ getD r₀ (rest .at) 0
+  unknown-first : FIRST-UNKNOWN ≤ getD r₀ (rest .at) 0
   unfolding joining-word
   unknown-first = omega (arith, word-is)
 
   pub join-parts : JoinParts r₀ rest scratch to lent (st .next)
   join-parts =
-      let F = rest-parts (rest .pile + 1) (omega arith) 1000 0 (omega arith) (omega arith) in
+      let F = rest-parts (rest .pile + 1) (omega arith) FIRST-UNKNOWN 0 (omega arith) (omega arith) in
       record {
         parts = F .parts;
         value-apart = earlier (omega (arith, rest-before, H .rows .next-row));
@@ -146,35 +147,35 @@ module _ {arities r₀ : List ℕ} {from to scratch lent : ℕ} {st : State} (H 
   value-stands : Stands (valued arities r₀ rest scratch (st .next)) scratch (length G + 1) t
   unfolding valued words edition-one
   value-stands =
-      let l : length (G ++ ((1000 + st .next) ∷ [])) ≡ length G + 1 = length-append G ((1000 + st .next) ∷ []) in
+      let l : length (G ++ ((FIRST-UNKNOWN + st .next) ∷ [])) ≡ length G + 1 = length-append G ((FIRST-UNKNOWN + st .next) ∷ []) in
       record {
-        stands = ap (seg (put r₀ scratch (G ++ ((1000 + st .next) ∷ []))) scratch) (sym l)
-            ∙ seg-put-same (G ++ ((1000 + st .next) ∷ [])) r₀ scratch (omega (arith, length-G, pile-fits, H .rows .scratch-rows))
+        stands = ap (seg (put r₀ scratch (G ++ ((FIRST-UNKNOWN + st .next) ∷ []))) scratch) (sym l)
+            ∙ seg-put-same (G ++ ((FIRST-UNKNOWN + st .next) ∷ [])) r₀ scratch (omega (arith, length-G, pile-fits, H .rows .scratch-rows))
             ∙ rw words-are (sym (words-over edition-one ms (unknown (st .next))));
       }
 
-  few-names : st .next < 512 → st .next + 1 ≤ edition-one .path-unknowns
+  few-names : st .next < PATH-UNKNOWNS → st .next + 1 ≤ edition-one .path-unknowns
   unfolding edition-one
   few-names h = omega arith
 
-  join-names : 512 ≤ st .next → {a : Made} {r : List ℕ} → Joined arities r₀ rest scratch to lent (st .next) a r → any (occurs x) ms ≡ false → Makes edition-one r₀ to lent (live (bound-state x t before)) a r
+  join-names : PATH-UNKNOWNS ≤ st .next → {a : Made} {r : List ℕ} → Joined arities r₀ rest scratch to lent (st .next) a r → any (occurs x) ms ≡ false → Makes edition-one r₀ to lent (live (bound-state x t before)) a r
   unfolding becomes bound-state renewed edition-one
   join-names h J e =
       let d = J .names (deadness ∙ e) h in
-      makes-none scratch G (d .1) (omega (arith, H .rows .next-row)) (d .0 ∙ rw (lt-ltb 512 (suc (st .next)) (omega arith))) (λ q. never (sym (d .0) ∙ q))
+      makes-none scratch G (d .1) (omega (arith, H .rows .next-row)) (d .0 ∙ rw (lt-ltb PATH-UNKNOWNS (suc (st .next)) (omega arith))) (λ q. never (sym (d .0) ∙ q))
     where
       never : _≡_ {A = Made} Names Live → ⊥
       never q = let z : _≡_ {A = ℕ} 0 1 = cc in omega arith
 
   -- x is in no member, and there is a name for the new unknown
-  join-live : st .next < 512 → {a : Made} {r : List ℕ} → Joined arities r₀ rest scratch to lent (st .next) a r → any (occurs x) ms ≡ false → Makes edition-one r₀ to lent (live (bound-state x t before)) a r
+  join-live : st .next < PATH-UNKNOWNS → {a : Made} {r : List ℕ} → Joined arities r₀ rest scratch to lent (st .next) a r → any (occurs x) ms ≡ false → Makes edition-one r₀ to lent (live (bound-state x t before)) a r
   unfolding bound-state renewed pend valued
   join-live few J e =
-      let v : List ℕ = G ++ ((1000 + st .next) ∷ []) in
+      let v : List ℕ = G ++ ((FIRST-UNKNOWN + st .next) ∷ []) in
       let n : st .next + 1 ≡ suc (st .next) = add-one (st .next) in
-      let l : length v ≡ length G + 1 = length-append G ((1000 + st .next) ∷ []) in
+      let l : length v ≡ length G + 1 = length-append G ((FIRST-UNKNOWN + st .next) ∷ []) in
       let w = word-is in
-      let P = finish-long (rest-parts (length G + 1) (omega (arith, length-G)) (1000 + x) (st .next + 1) (omega arith) (omega arith)) (length-valued v) in
+      let P = finish-long (rest-parts (length G + 1) (omega (arith, length-G)) (FIRST-UNKNOWN + x) (st .next + 1) (omega arith) (omega arith)) (length-valued v) in
       rw (entries-others, others-others, ← n)
       (makes-after scratch v (omega (arith, H .rows .next-row))
       (finish-pile-makes (sound-worded (H .sound)) (rested-put R scratch v (earlier (omega (arith, rest-before, H .rows .next-row)))) (H .sound .pile) value-stands
@@ -188,12 +189,12 @@ module _ {arities r₀ : List ℕ} {from to scratch lent : ℕ} {st : State} (H 
   join-made {a} {r} J =
       cases (any (occurs x) ms)
       (λ e. rw (occurs-is, e) (let d = J .dead (deadness ∙ e) in makes-none scratch G (d .1) (omega (arith, H .rows .next-row)) (d .0) (λ q. never (sym (d .0) ∙ q))))
-      (λ e. rw (occurs-is, e) (by-order (decLe 512 (st .next)) e))
+      (λ e. rw (occurs-is, e) (by-order (decLe PATH-UNKNOWNS (st .next)) e))
     where
       never : _≡_ {A = Made} Dead Live → ⊥
       never q = let z : _≡_ {A = ℕ} 0 1 = cc in omega arith
 
-      by-order : Dec (512 ≤ st .next) → any (occurs x) ms ≡ false → Makes edition-one r₀ to lent (live (bound-state x t before)) a r
+      by-order : Dec (PATH-UNKNOWNS ≤ st .next) → any (occurs x) ms ≡ false → Makes edition-one r₀ to lent (live (bound-state x t before)) a r
       by-order (yes h) e = join-names h J e
       by-order (no h) e = join-live (omega arith) J e
 
@@ -202,14 +203,14 @@ module _ {arities r₀ : List ℕ} {from to scratch lent : ℕ} {st : State} (H 
   join-beside {a} {r} J =
       cases (holds (joining-word r₀ rest) G)
       (λ e. unwritten (J .dead e .1))
-      (λ e. by-order (decLe 512 (st .next)) e)
+      (λ e. by-order (decLe PATH-UNKNOWNS (st .next)) e)
     where
-      row-before : to + (lent + 8) ≤ scratch
+      row-before : to + stride lent ≤ scratch
       row-before = omega (arith, H .rows .next-row)
 
       unwritten : r ≡ put r₀ scratch G → Beside r₀ r to lent scratch
       unwritten q = beside-aside G row-before (rw q beside-same)
 
-      by-order : Dec (512 ≤ st .next) → holds (joining-word r₀ rest) G ≡ false → Beside r₀ r to lent scratch
+      by-order : Dec (PATH-UNKNOWNS ≤ st .next) → holds (joining-word r₀ rest) G ≡ false → Beside r₀ r to lent scratch
       by-order (yes h) e = unwritten (J .names e h .1)
-      by-order (no h) e = beside-aside (G ++ ((1000 + st .next) ∷ [])) row-before (finished-beside (J .live e (omega arith)))
+      by-order (no h) e = beside-aside (G ++ ((FIRST-UNKNOWN + st .next) ∷ [])) row-before (finished-beside (J .live e (omega arith)))

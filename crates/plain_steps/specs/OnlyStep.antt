@@ -7,7 +7,8 @@ use mathlib.Core.Bool.{false}
 use native.Mathlib.Omega.{arith}
 use lib.ListN.{length, getD}
 use Rattle.room.specs.Room.{seg, getD-seg}
-use Rattle.terms.specs.Bounds.{edition-one, edition-one-proper}
+use Rattle.room.specs.Layout.{HEADER}
+use Rattle.terms.specs.Bounds.{edition-one, edition-one-proper, FIRST-UNKNOWN, FIRST-FUNCTOR}
 use Rattle.terms.specs.Kind.{takes, takes-functor}
 use Rattle.terms.specs.Term.{Term, Terms, functor, words, size, occurs, list}
 use Rattle.terms.specs.Formed.{Equation, Formed, formed-unknown, formed-functor}
@@ -43,7 +44,7 @@ pub record StepFor (arities l : List ℕ) (from to scratch lent right end next :
   pub right-is : right ≡ size (e .left)
   pub end-is : end ≡ size (e .left) + size (e .right)
   pub rest-is : rest ≡ rest-after from (header-for st) (size (e .left) + size (e .right))
-  pub subject-is : s ≡ subject-in edition-one (seg l (from + 8) (size (e .left) + size (e .right))) (from + 8) (size (e .left)) (size (e .left) + size (e .right))
+  pub subject-is : s ≡ subject-in edition-one (seg l (from + HEADER) (size (e .left) + size (e .right))) (from + HEADER) (size (e .left)) (size (e .left) + size (e .right))
   pub step-is : step ≡ classify (e .left) (e .right)
   pub next-is : next ≡ st .next
 
@@ -106,10 +107,10 @@ module _ {arities l : List ℕ} {from to scratch lent right end next : ℕ} {res
   view k q = rw (sym (S .step-is) ∙ q) at (stepped (e .left) (e .right))
 
   -- the unknown is one of the state's
-  small : {x : ℕ} {t : Term} → Sided x t (e .left) (e .right) → x < 1000
+  small : {x : ℕ} {t : Term} → Sided x t (e .left) (e .right) → x < FIRST-UNKNOWN
   small {x} {t} d = let f = first-formed (H .sound) (S .cut) in by-side d (f .0) (f .1)
     where
-      by-side : {a c : Term} → Sided x t a c → Formed arities (st .next) a → Formed arities (st .next) c → x < 1000
+      by-side : {a c : Term} → Sided x t a c → Formed arities (st .next) a → Formed arities (st .next) c → x < FIRST-UNKNOWN
       by-side as-written (formed-unknown h) g = omega (arith, S .held .sound .few)
       by-side (turned-round n) f (formed-unknown h) = omega (arith, S .held .sound .few)
 
@@ -118,7 +119,7 @@ module _ {arities l : List ℕ} {from to scratch lent right end next : ℕ} {res
 
   -- ---- drop
 
-  pub drop-arm-parts : FinishParts l rest from 0 to 0 lent 1000 next
+  pub drop-arm-parts : FinishParts l rest from 0 to 0 lent FIRST-UNKNOWN next
   drop-arm-parts = rw (S .rest-is, S .next-is) (drop-parts H (S .cut))
 
   pub drop-arm : {a : Made} {r : List ℕ} {node : Node} → step ≡ Drop → Finished l to 0 lent (kept-piece l rest from 0) (header-of (kept-header rest 0 0 next)) a r
@@ -159,27 +160,27 @@ module _ {arities l : List ℕ} {from to scratch lent right end next : ℕ} {res
 
   -- ---- decompose
 
-  pub decompose-arm-parts : step ≡ Decompose → DecomposeParts l rest (from + 8 + 1) (right - 1) (from + 8 + right + 1) (end - right - 1) to lent next
+  pub decompose-arm-parts : step ≡ Decompose → DecomposeParts l rest (from + HEADER + 1) (right - 1) (from + HEADER + right + 1) (end - right - 1) to lent next
   decompose-arm-parts q = let v = functors (view _ q) in rw (S .rest-is, S .next-is, S .right-is, S .end-is) (decompose-first-parts H (S .cut) (v .left) (v .right))
 
   -- the functor's word, and its arity
-  arity : {c : ℕ} (v : Functors (e .left) (e .right)) → c ≡ takes edition-one arities (getD l (from + 8) 0) → c ≡ getD arities (v .k) 0
+  arity : {c : ℕ} (v : Functors (e .left) (e .right)) → c ≡ takes edition-one arities (getD l (from + HEADER) 0) → c ≡ getD arities (v .k) 0
   unfolding words edition-one
   arity v f =
-      let p : from + 8 + 0 ≡ from + 8 = omega arith in
-      let w : getD l (from + 8) 0 ≡ 2000 + v .k =
-      ap (λ (j : ℕ). getD l j 0) (sym p) ∙ sym (getD-seg l (from + 8) (size (e .left)) 0 (size-positive (e .left)))
+      let p : from + HEADER + 0 ≡ from + HEADER = omega arith in
+      let w : getD l (from + HEADER) 0 ≡ FIRST-FUNCTOR + v .k =
+      ap (λ (j : ℕ). getD l j 0) (sym p) ∙ sym (getD-seg l (from + HEADER) (size (e .left)) 0 (size-positive (e .left)))
       ∙ ap (λ (ws : List ℕ). getD ws 0 0) (left-stands (H .holds) (S .cut) ∙ ap (words edition-one) (v .left)) in
       f ∙ rw w (takes-functor edition-one-proper arities (v .k) (omega (arith, declared (rw (v .left) at (first-formed (H .sound) (S .cut) .0)), H .sound .functors)))
     where
       declared : {k : ℕ} {ts : Terms} → Formed arities (st .next) (functor k ts) → k < length arities
       declared (formed-functor h c g) = h
 
-  pub decompose-arm : {c : ℕ} {a : Made} {r : List ℕ} {node : Node} → step ≡ Decompose → c ≡ takes edition-one arities (getD l (from + 8) 0)
-      → Finished (decomposed edition-one arities l c (from + 8 + 1) (right - 1) (from + 8 + right + 1) (end - right - 1) to) to
-      (length (paired edition-one arities c (seg l (from + 8 + 1) (right - 1)) (seg l (from + 8 + right + 1) (end - right - 1)))) lent
-      (kept-piece (decomposed edition-one arities l c (from + 8 + 1) (right - 1) (from + 8 + right + 1) (end - right - 1) to) rest (from + 8 + 1) 0)
-      (header-of (kept-header rest (length (paired edition-one arities c (seg l (from + 8 + 1) (right - 1)) (seg l (from + 8 + right + 1) (end - right - 1)))) 0 next)) a r
+  pub decompose-arm : {c : ℕ} {a : Made} {r : List ℕ} {node : Node} → step ≡ Decompose → c ≡ takes edition-one arities (getD l (from + HEADER) 0)
+      → Finished (decomposed edition-one arities l c (from + HEADER + 1) (right - 1) (from + HEADER + right + 1) (end - right - 1) to) to
+      (length (paired edition-one arities c (seg l (from + HEADER + 1) (right - 1)) (seg l (from + HEADER + right + 1) (end - right - 1)))) lent
+      (kept-piece (decomposed edition-one arities l c (from + HEADER + 1) (right - 1) (from + HEADER + right + 1) (end - right - 1) to) rest (from + HEADER + 1) 0)
+      (header-of (kept-header rest (length (paired edition-one arities c (seg l (from + HEADER + 1) (right - 1)) (seg l (from + HEADER + right + 1) (end - right - 1)))) 0 next)) a r
       → children.take step (e .left) (e .right) (pend es st) ≡ node ∷ [] → Makes edition-one l to lent node a r
   unfolding pend
   decompose-arm {node = node} q f F o =

@@ -7,7 +7,8 @@ use lib.ListN.{length}
 use Rattle.room.specs.Room.{seg, put, Within, length-put, length-seg, seg-zero, seg-put-same}
 use Rattle.room.specs.Parts.{Apart, earlier, later, apart-part, seg-put}
 use Rattle.room.specs.Replaced.{replaced, replaced-nil}
-use Rattle.terms.specs.Bounds.{edition-one}
+use Rattle.room.specs.Layout.{HEADER, stride}
+use Rattle.terms.specs.Bounds.{edition-one, FIRST-UNKNOWN}
 use Rattle.terms.specs.Term.{Term, words, size}
 use Rattle.terms.specs.Formed.{Equation, row, sides}
 use Rattle.terms.specs.Answers.{pile-words}
@@ -55,7 +56,7 @@ makes-after {l} i vs h M = record {
 }
 
 -- the entry is laid out aside
-pub postpone-beside : {l : List ℕ} (s : Subject) {to entry written lent : ℕ} {piece header : List ℕ} {a : Made} {r : List ℕ} → to + (lent + 8) ≤ entry
+pub postpone-beside : {l : List ℕ} (s : Subject) {to entry written lent : ℕ} {piece header : List ℕ} {a : Made} {r : List ℕ} → to + stride lent ≤ entry
     → Finished (postponed l s entry) to written lent piece header a r → Beside l r to lent entry
 unfolding postponed
 postpone-beside {l} s h F = beside-aside (s .x ∷ seg l (s .by) (s .m)) h (finished-beside F)
@@ -78,20 +79,20 @@ module _ {arities r₀ : List ℕ} {from to scratch lent : ℕ} {st : State} (H 
   pub rest-stands : Rested edition-one r₀ rest (pend es st)
   rest-stands = rw end-is at (rested H (e ∷ []) es cut)
 
-  pub single-parts : {by m : ℕ} → Within r₀ by m → Apart by m to (8 + lent) → (written x : ℕ) → written ≤ lent → 1000 ≤ x → FinishParts r₀ rest by m to written lent x (st .next)
+  pub single-parts : {by m : ℕ} → Within r₀ by m → Apart by m to (HEADER + lent) → (written x : ℕ) → written ≤ lent → FIRST-UNKNOWN ≤ x → FinishParts r₀ rest by m to written lent x (st .next)
   single-parts h a written x w u = rw end-is at (finish-parts H (e ∷ []) es cut h a written x (st .next) w u (omega (arith, H .sound .few)))
 
   pub rest-bound : rest .at + (rest .pending + rest .pile + rest .bound) ≤ to
   rest-bound = rw end-is at (rest-room H (e ∷ []) es cut)
 
-  nothing-new : seg r₀ (to + 8) 0 ≡ pending-words edition-one []
+  nothing-new : seg r₀ (to + HEADER) 0 ≡ pending-words edition-one []
   unfolding pending-words row sides
-  nothing-new = seg-zero r₀ (to + 8)
+  nothing-new = seg-zero r₀ (to + HEADER)
 
   -- ---- drop
 
-  pub drop-parts : FinishParts r₀ rest from 0 to 0 lent 1000 (st .next)
-  drop-parts = single-parts (omega (arith, H .rows .row, H .rows .next-row, H .rows .scratch-rows)) (earlier (omega (arith, H .rows .row))) 0 1000 (omega arith) (omega arith)
+  pub drop-parts : FinishParts r₀ rest from 0 to 0 lent FIRST-UNKNOWN (st .next)
+  drop-parts = single-parts (omega (arith, H .rows .row, H .rows .next-row, H .rows .scratch-rows)) (earlier (omega (arith, H .rows .row))) 0 FIRST-UNKNOWN (omega arith) (omega arith)
 
   pub drop-made : {a : Made} {r : List ℕ} → Finished r₀ to 0 lent (kept-piece r₀ rest from 0) (header-of (kept-header rest 0 0 (st .next))) a r → Makes edition-one r₀ to lent (live (pend es st)) a r
   unfolding extended pend pile-words
@@ -101,11 +102,11 @@ module _ {arities r₀ : List ℕ} {from to scratch lent : ℕ} {st : State} (H 
 
   -- ---- bind
 
-  module _ {s : Subject} {x : ℕ} {t : Term} (A : SubjectAt r₀ s x t from end) (small : x < 1000) where
+  module _ {s : Subject} {x : ℕ} {t : Term} (A : SubjectAt r₀ s x t from end) (small : x < FIRST-UNKNOWN) where
     pub subject-within : Within r₀ (s .by) (s .m)
     subject-within = omega (arith, A .before, sides-within H cut, H .rows .next-row, H .rows .scratch-rows)
 
-    pub subject-apart : Apart (s .by) (s .m) to (8 + lent)
+    pub subject-apart : Apart (s .by) (s .m) to (HEADER + lent)
     subject-apart = earlier (omega (arith, A .before, sides-within H cut))
 
     pub bind-first-parts : FinishParts r₀ rest (s .by) (s .m) to 0 lent (s .x) (st .next)
@@ -118,7 +119,7 @@ module _ {arities r₀ : List ℕ} {from to scratch lent : ℕ} {st : State} (H 
     unfolding ahead pend
     bind-made F =
         let w = A .word in
-        finish-makes (sound-worded (H .sound)) rest-stands (H .sound .pile) (A .stands) small (rw w at bind-first-parts) [] (seg-zero r₀ (to + 8) ∙ none-replaced (1000 + x) t) (rw w at F) few
+        finish-makes (sound-worded (H .sound)) rest-stands (H .sound .pile) (A .stands) small (rw w at bind-first-parts) [] (seg-zero r₀ (to + HEADER) ∙ none-replaced (FIRST-UNKNOWN + x) t) (rw w at F) few
 
     -- ---- postpone: the entry is laid out in the first scratch row
 
@@ -136,7 +137,7 @@ module _ {arities r₀ : List ℕ} {from to scratch lent : ℕ} {st : State} (H 
 
     pub postpone-first-parts : PostponeParts r₀ rest s scratch to lent (st .next)
     postpone-first-parts = record {
-      parts = single-parts (omega (arith, entry-small, H .rows .scratch-rows)) (later (omega (arith, H .rows .next-row))) 0 1000 (omega arith) (omega arith);
+      parts = single-parts (omega (arith, entry-small, H .rows .scratch-rows)) (later (omega (arith, H .rows .next-row))) 0 FIRST-UNKNOWN (omega arith) (omega arith);
       by-within = subject-within;
       by-apart = earlier (omega (arith, A .before, sides-within H cut, H .rows .next-row));
     }
@@ -155,4 +156,4 @@ module _ {arities r₀ : List ℕ} {from to scratch lent : ℕ} {st : State} (H 
     postpone-made F =
         makes-after scratch laid (omega (arith, H .rows .next-row))
         (keep-makes (rested-put rest-stands scratch laid (earlier (omega (arith, rest-bound, H .rows .next-row)))) entry-piled
-        (finish-long (postpone-first-parts .parts) (length-put r₀ scratch laid)) [] (seg-zero (put r₀ scratch laid) (to + 8) ∙ none-pending) F few)
+        (finish-long (postpone-first-parts .parts) (length-put r₀ scratch laid)) [] (seg-zero (put r₀ scratch laid) (to + HEADER) ∙ none-pending) F few)

@@ -7,7 +7,8 @@ use native.Mathlib.Omega.{arith}
 use lib.ListN.{length, take, drop, length-append, take-append-drop}
 use Rattle.room.specs.Room.{seg, put, Within}
 use Rattle.room.specs.Parts.{Apart}
-use Rattle.terms.specs.Bounds.{Bounds}
+use Rattle.room.specs.Layout.{HEADER}
+use Rattle.terms.specs.Bounds.{Bounds, FIRST-UNKNOWN}
 use Rattle.rows.specs.declared.parts.Rest.{Rest}
 use Rattle.rows.specs.declared.first.Subject.{Subject}
 use Rattle.rows.specs.Bind.{FinishParts}
@@ -17,7 +18,7 @@ unfoldable pub postponed : List ℕ → Subject → ℕ → List ℕ
 postponed r s entry = put r entry (s .x ∷ seg r (s .by) (s .m))
 
 pub record PostponeParts (l : List ℕ) (rest : Rest) (s : Subject) (entry to size next : ℕ) : Type 0 where
-  pub parts : FinishParts l rest entry (s .m + 1) to 0 size 1000 next
+  pub parts : FinishParts l rest entry (s .m + 1) to 0 size FIRST-UNKNOWN next
   pub by-within : Within l (s .by) (s .m)
   pub by-apart : Apart (s .by) (s .m) entry (s .m + 1)
 
@@ -47,7 +48,7 @@ length-paired b arities (suc k) us vs =
 
 -- the room with the argument equations written to the body of a row
 unfoldable pub decomposed : Bounds → (arities r : List ℕ) → (k left n right m to : ℕ) → List ℕ
-decomposed b arities r k left n right m to = put r (to + 8) (paired b arities k (seg r left n) (seg r right m))
+decomposed b arities r k left n right m to = put r (to + HEADER) (paired b arities k (seg r left n) (seg r right m))
 
 pub record PairParts (l : List ℕ) (left n right m to : ℕ) : Type 0 where
   pub left-within : Within l left n
@@ -58,6 +59,6 @@ pub record PairParts (l : List ℕ) (left n right m to : ℕ) : Type 0 where
   pub small : length l < 2 ^ 32
 
 pub record DecomposeParts (l : List ℕ) (rest : Rest) (left n right m to size next : ℕ) : Type 0 where
-  pub pairs : PairParts l left n right m (to + 8)
+  pub pairs : PairParts l left n right m (to + HEADER)
   pub fits : n + m ≤ size
-  pub parts : FinishParts l rest left 0 to 0 size 1000 next
+  pub parts : FinishParts l rest left 0 to 0 size FIRST-UNKNOWN next

@@ -21,9 +21,9 @@ use Rattle.search.specs.Ends.{end-number, end-of}
 use Rattle.text.specs.Decimal.{decimal-length}
 use Rattle.text.specs.Sizes.{line-length}
 use Rattle.text.specs.Text.{decimal, line}
-use Rattle.pen.specs.Depths.{First, all-within, first-at}
-use Rattle.pen.specs.Pen.{most, counted, Wrote}
-use Rattle.pen.specs.Writing.{wrote-then}
+use Rattle.word_writer.specs.Depths.{First, all-within, first-at}
+use Rattle.word_writer.specs.Pen.{most, counted, Wrote}
+use Rattle.word_writer.specs.Writing.{wrote-then}
 use Rattle.writer.specs.Written.{held, fitted, nested, tested, list-written, text-of-list}
 use Rattle.results.specs.declared.written.Written.{Written}
 use Rattle.results.specs.declared.written.Written.the-variants.{Length, Refused}

@@ -35,7 +35,7 @@ use Rattle.question_reader.specs.WholePlaces.{question-placed}
 use Rattle.roundtrip.specs.QuestionText.{asked, written-then-read, edition-one-narrow}
 use Rattle.roundtrip.specs.QuestionSpans.{Comes-from, comes-from, read-then-written}
 use Rattle.reader.specs.LentBuffers.{fitted, question-into}
-use Rattle.pen.specs.Depths.{First, all-within, first-at}
+use Rattle.word_writer.specs.Depths.{First, all-within, first-at}
 use Rattle.writer.specs.Written.{tested, nested, check-list, list-written, text-of-list}
 use Rattle.writer.specs.Written as writer
 use Rattle.results.specs.Loans.{ending, loan, needed}

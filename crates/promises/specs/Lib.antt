@@ -1,5 +1,5 @@
 pub mod Wording
-pub mod Runs
+pub mod Searches
 pub mod Promises
 pub mod Examples
 pub mod EditionTwo

@@ -18,11 +18,11 @@ use Rattle.search.specs.StateWords.{state-words, length-state}
 use Rattle.answers.specs.Fits.{Meets, Fits}
 use Rattle.answers.specs.DemandTwo as demand
 use Rattle.promises.specs.Wording.{NoLess, Begins, whole, Answers-in-form}
-use Rattle.promises.specs.Runs.Lending.{more-lent, listed-begins}
-use Rattle.promises.specs.Runs.Ending.{visits-settle}
-use Rattle.promises.specs.Runs.Completing.{enough, done-whole}
-use Rattle.promises.specs.Runs.Naming.{names-within, never-names}
-use Rattle.promises.specs.Runs.AnswerForms.{answers-in-form}
+use Rattle.promises.specs.Searches.Lending.{more-lent, listed-begins}
+use Rattle.promises.specs.Searches.Ending.{visits-settle}
+use Rattle.promises.specs.Searches.Completing.{enough, done-whole}
+use Rattle.promises.specs.Searches.Naming.{names-within, never-names}
+use Rattle.promises.specs.Searches.AnswerForms.{answers-in-form}
 
 -- ---- demand 2: every answer true and none lost
 

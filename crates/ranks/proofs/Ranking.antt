@@ -9,9 +9,9 @@ use Rattle.terms.specs.Term.{with}
 use Rattle.terms.specs.Reading.{taken}
 use Rattle.laws.specs.Rank.{rank, rank*}
 use Rattle.laws.specs.Values.{value*}
-use Rattle.places.specs.Places.{Held, valued, Placed, Known, end, resolved, member-of, rest-of}
-use Rattle.places.specs.Opened.{opened, resolving}
-use Rattle.places.specs.Arguments.{arguments, following, Left, Kernel, kernel-empty, kernel-functor, kernel-at, left-first, left-next, next-inside, more-arguments}
+use Rattle.term_places.specs.Places.{Held, valued, Placed, Known, end, resolved, member-of, rest-of}
+use Rattle.term_places.specs.Opened.{opened, resolving}
+use Rattle.term_places.specs.Arguments.{arguments, following, Left, Kernel, kernel-empty, kernel-functor, kernel-at, left-first, left-next, next-inside, more-arguments}
 use Rattle.ranks.specs.Ranks.{RankTold, Above, Ranked, OfPlace, OfSet, OfFunctor}
 use Rattle.ranks.specs.Ranked.{not-told, ranked-set}
 

@@ -8,8 +8,8 @@ use lib.Dec.{eqb}
 use lib.ListN.{length, getD, set, length-set}
 use lib.Seq.{getD-set-same, getD-set-other}
 use borrow.Author.Tests.{eqb-true, eqb-false}
-use Rattle.places.specs.Places.{Held, Placed}
-use Rattle.places.specs.Classes.{Cleared}
+use Rattle.term_places.specs.Places.{Held, Placed}
+use Rattle.term_places.specs.Classes.{Cleared}
 use Rattle.ranks.specs.Ranks.{RankTold, Ranked}
 
 pub not-told : {h : Held} {p r : ℕ} → 65535 ≤ r → RankTold h p r

@@ -4,7 +4,7 @@ use mathlib.Core.Path.{_≡_}
 use mathlib.Core.List.{List}
 use lib.ListN.{length, getD}
 use Rattle.laws.specs.Rank.{rank}
-use Rattle.places.specs.Places.{Held, valued, Placed, Known}
+use Rattle.term_places.specs.Places.{Held, valued, Placed, Known}
 
 -- r is the rank of the term at p
 pub record RankAt (h : Held) (p r : ℕ) : Type 0 where

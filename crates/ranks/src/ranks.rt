@@ -1,11 +1,11 @@
 // The rank of the term at each place, values put in: how deep members and arguments stand in it. Equal terms have one rank.
 ghost use Prim.Native.Nat.{max};
 ghost use mathlib.Core.Path.{_≡_};
-ghost use Rattle.places.specs.Places.{held};
+ghost use Rattle.term_places.specs.Places.{held};
 ghost use Rattle.ranks.specs.Ranks.{Ranked, RankTold, Above, OfPlace, OfSet, OfFunctor};
-use places::classes::NONE;
-use places::places::resolve;
-use places::places::term_end;
+use term_places::classes::NONE;
+use term_places::places::resolve;
+use term_places::places::term_end;
 use terms::bounds::EMPTY;
 use terms::bounds::FIRST_FUNCTOR;
 use terms::bounds::MEMBER;

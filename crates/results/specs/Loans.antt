@@ -1,6 +1,7 @@
 -- What a run is lent, the room that it needs, and what its outcome tells.
 use Prim.Native.Nat.{ℕ, _+_, _*_}
 use lib.ListN.{length}
+use Rattle.room.specs.Layout.{HEADER, SPARE-ROWS}
 use Rattle.terms.specs.Answers.{listed}
 use Rattle.search.specs.declared.limits.Limits.{Limits}
 use Rattle.search.specs.Run.{Loan, Outcome}
@@ -11,7 +12,7 @@ loan limits space = record { steps = limits .steps; depth = limits .depth; size 
 
 -- the words that the room must have
 unfoldable pub needed : Limits → ℕ
-needed limits = (limits .depth + 8) * (limits .size + 8)
+needed limits = (limits .depth + SPARE-ROWS) * (limits .size + HEADER)
 
 -- the outcome's end and numbers
 unfoldable pub ending : Outcome → Ending

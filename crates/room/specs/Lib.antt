@@ -1,4 +1,5 @@
 pub mod Cases
+pub mod Layout
 pub mod Room
 pub mod Parts
 pub mod Replaced

@@ -1,11 +1,13 @@
-// Words moved about in one lent room: copied inside it, and copied into it from another slice.
+// Words moved about in one lent room: copied inside it, and copied into it from another slice. `layout` has the numbers of a run's room.
 //
 // A client's contracts cite `specs/Room.antt` (`seg`, `put`), `specs/Parts.antt` (`Apart`, where the parts of a call lie) and `specs/Replaced.antt` (words in
-// which one is replaced).
+// which one is replaced), `specs/Layout.antt` the rows of a run's room.
 ghost use mathlib.Core.Path.{_≡_};
 ghost use lib.ListN.{length};
 ghost use Rattle.room.specs.Room.{seg, put, Within};
 ghost use Rattle.room.specs.Parts.{CopyParts};
+
+pub mod layout;
 
 // Copies the n words at `from` to the place `to`.
 pub fn copy(room: &mut [u16], from: usize, n: usize, to: usize)

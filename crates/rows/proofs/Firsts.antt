@@ -6,7 +6,7 @@ use mathlib.Core.Bool.{true, false}
 use native.Mathlib.Omega.{arith}
 use lib.ListN.{length, take, drop, getD, length-drop}
 use lib.Seq.{length-take-le, take-length}
-use Rattle.terms.specs.Bounds.{edition-one}
+use Rattle.terms.specs.Bounds.{edition-one, FIRST-UNKNOWN, UNKNOWN-WORDS}
 use Rattle.terms.specs.Kind.{within}
 use Rattle.terms.specs.Walk.{span-le}
 use Rattle.search.specs.declared.steps.Step.{Step}
@@ -43,10 +43,10 @@ module _ (arities ws : List ℕ) {right n : ℕ} (e : right ≡ term-end edition
       rw (rw (others ws right) at g, f′, e)
 
 module _ (ws : List ℕ) (at right end : ℕ) where
-  pub subject-left : {l : ℕ} → l ≡ getD ws 0 0 → within 1000 1000 l ≡ true → _≡_ {A = Subject} (record { x = l; by = at + right; m = end - right }) (subject-in edition-one ws at right end)
+  pub subject-left : {l : ℕ} → l ≡ getD ws 0 0 → within FIRST-UNKNOWN UNKNOWN-WORDS l ≡ true → _≡_ {A = Subject} (record { x = l; by = at + right; m = end - right }) (subject-in edition-one ws at right end)
   unfolding subject-in subject-by unknown-word edition-one
   subject-left e p = let q = rw e at p in rw (e, q)
 
-  pub subject-right : {l x : ℕ} → l ≡ getD ws 0 0 → within 1000 1000 l ≡ false → x ≡ getD ws right 0 → _≡_ {A = Subject} (record { x = x; by = at; m = right }) (subject-in edition-one ws at right end)
+  pub subject-right : {l x : ℕ} → l ≡ getD ws 0 0 → within FIRST-UNKNOWN UNKNOWN-WORDS l ≡ false → x ≡ getD ws right 0 → _≡_ {A = Subject} (record { x = x; by = at; m = right }) (subject-in edition-one ws at right end)
   unfolding subject-in subject-by unknown-word edition-one
   subject-right e p f = let q = rw e at p in rw (f, q)

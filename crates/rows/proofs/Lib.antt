@@ -1,3 +1,3 @@
 pub mod Walks
-pub mod Steps
+pub mod StepTests
 pub mod Firsts

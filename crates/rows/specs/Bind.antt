@@ -8,7 +8,9 @@ use lib.ListN.{length}
 use Rattle.room.specs.Room.{seg, Within}
 use Rattle.room.specs.Parts.{Apart, ReplaceParts, apart-part}
 use Rattle.room.specs.Replaced.{replaced}
-use Rattle.terms.specs.Bounds.{Bounds}
+use Rattle.room.specs.Layout.{HEADER}
+use Rattle.terms.specs.Bounds.{Bounds, FIRST-UNKNOWN}
+use Rattle.search.specs.RunLimits.{most-size}
 use Rattle.rows.specs.declared.parts.Rest.{Rest}
 use Rattle.rows.specs.declared.parts.Part.the-variants.{Entries, Others}
 use Rattle.rows.specs.Pile.{selection}
@@ -22,7 +24,7 @@ unfoldable pub pile-piece : Bounds → (arities room : List ℕ) → Rest → (x
 pile-piece b arities r rest x by m = replaced x (seg r by m) (selection b arities Others x (seg r (rest .at + rest .pending) (rest .pile)))
 
 unfoldable pub last-piece : (room : List ℕ) → Rest → (x by m : ℕ) → List ℕ
-last-piece r rest x by m = seg r (rest .at + rest .pending + rest .pile) (rest .bound) ++ ((x - 1000) ∷ seg r by m)
+last-piece r rest x by m = seg r (rest .at + rest .pending + rest .pile) (rest .bound) ++ ((x - FIRST-UNKNOWN) ∷ seg r by m)
 
 -- all of them
 unfoldable pub bound-piece : Bounds → (arities room : List ℕ) → Rest → (x by m : ℕ) → List ℕ
@@ -69,9 +71,9 @@ module _ {l : List ℕ} {rest : Rest} {by m to capacity : ℕ} (P : BindParts l 
 
 -- a row is written: its first words are there, and its numbers are words
 pub record FinishParts (l : List ℕ) (rest : Rest) (by m to written size x next : ℕ) : Type 0 where
-  pub parts : BindParts l rest by m to (8 + size)
+  pub parts : BindParts l rest by m to (HEADER + size)
   pub written-within : written ≤ size
-  pub size-small : size ≤ 8192
-  pub unknown : 1000 ≤ x
+  pub size-small : size ≤ most-size
+  pub unknown : FIRST-UNKNOWN ≤ x
   pub bindings-small : rest .bindings < 65535
   pub next-small : next < 65536

@@ -8,6 +8,7 @@ use native.Mathlib.Omega.{arith}
 use lib.ListN.{length, take, drop, getD, length-append}
 use lib.Seq.{take-at, drop-at}
 use Rattle.room.specs.Room.{seg, seg-seg}
+use Rattle.room.specs.Layout.{HEADER}
 use Rattle.terms.specs.Bounds.{Bounds}
 use Rattle.terms.specs.Kind.{Worded}
 use Rattle.terms.specs.Term.{Term, words, size}
@@ -45,13 +46,13 @@ unfoldable pub header-in : List ℕ → Header
 header-in ws = record { pending = getD ws 0 0; pile = getD ws 1 0; body = getD ws 2 0; bindings = getD ws 3 0; next = getD ws 4 0 }
 
 pub record HeaderParts (from : ℕ) (h : Header) (skip : ℕ) : Type 0 where
-  pub place : from + 8 + skip < 2 ^ 32
+  pub place : from + HEADER + skip < 2 ^ 32
   pub skipped : skip ≤ h .pending
   pub parts : h .pending + h .pile ≤ h .body
 
 unfoldable pub rest-after : ℕ → Header → ℕ → Rest
 rest-after from h skip = record {
-  at = from + 8 + skip;
+  at = from + HEADER + skip;
   pending = h .pending - skip;
   pile = h .pile;
   bound = h .body - h .pending - h .pile;
@@ -98,7 +99,7 @@ module _ {b : Bounds} {l : List ℕ} {from : ℕ} {st : State} (H : Holds b l fr
   abbrev B : List ℕ
   B = binding-words b (st .bindings)
 
-  whole : seg l (from + 8) (state-size st) ≡ (D ++ E) ++ (P ++ B)
+  whole : seg l (from + HEADER) (state-size st) ≡ (D ++ E) ++ (P ++ B)
   unfolding state-words
   whole = H .body ∙ rw (cut, pending-append b ds es)
 
@@ -106,8 +107,8 @@ module _ {b : Bounds} {l : List ℕ} {from : ℕ} {st : State} (H : Holds b l fr
   cut-sizes = omega (arith, ap length (ap (pending-words b) cut ∙ pending-append b ds es), length-append D E, length-pending b (st .pending), length-pending b ds, length-pending b es)
 
   -- a part of the body
-  part : (i n : ℕ) → i + n ≤ state-size st → seg l (from + 8 + i) n ≡ seg ((D ++ E) ++ (P ++ B)) i n
-  part i n h = sym (seg-seg l (from + 8) (state-size st) i n h) ∙ ap (λ (ws : List ℕ). seg ws i n) whole
+  part : (i n : ℕ) → i + n ≤ state-size st → seg l (from + HEADER + i) n ≡ seg ((D ++ E) ++ (P ++ B)) i n
+  part i n h = sym (seg-seg l (from + HEADER) (state-size st) i n h) ∙ ap (λ (ws : List ℕ). seg ws i n) whole
 
   pub holds-rest : Rested b l (rest-after from (header-for st) (size-equations ds)) (pend es st)
   unfolding rest-after header-for state-size pend
@@ -119,8 +120,8 @@ module _ {b : Bounds} {l : List ℕ} {from : ℕ} {st : State} (H : Holds b l fr
       let q : length B ≡ size-named (st .bindings) = length-bindings b (st .bindings) in
       let left : size-equations (st .pending) - size-equations ds ≡ size-equations es = omega arith in
       let bound : size-equations (st .pending) + size-named (st .pile) + size-named (st .bindings) - size-equations (st .pending) - size-named (st .pile) ≡ size-named (st .bindings) = omega arith in
-      let one : from + 8 + size-equations ds + size-equations es ≡ from + 8 + (size-equations ds + size-equations es) = omega arith in
-      let two : from + 8 + size-equations ds + size-equations es + size-named (st .pile) ≡ from + 8 + (size-equations ds + size-equations es + size-named (st .pile)) = omega arith in
+      let one : from + HEADER + size-equations ds + size-equations es ≡ from + HEADER + (size-equations ds + size-equations es) = omega arith in
+      let two : from + HEADER + size-equations ds + size-equations es + size-named (st .pile) ≡ from + HEADER + (size-equations ds + size-equations es + size-named (st .pile)) = omega arith in
       record {
         pending = rw left (part (size-equations ds) (size-equations es) (omega arith) ∙ middle D E (P ++ B) (size-equations ds) (size-equations es) (append-assoc D E (P ++ B)) d e);
         pile = rw (left, one) (part (size-equations ds + size-equations es) (size-named (st .pile)) (omega arith) ∙ middle (D ++ E) P B _ _ refl (omega (arith, length-append D E)) p);

@@ -1,7 +1,7 @@
 pub mod Made
 pub mod Ended
 pub mod Stripped
-pub mod Flat
+pub mod HeldWords
 pub mod Wrote
 pub mod Header
 pub mod Pile
@@ -9,6 +9,6 @@ pub mod Bind
 pub mod Finished
 pub mod States
 pub mod Row
-pub mod Members
+pub mod MemberWords
 pub mod Stepping
 pub mod First

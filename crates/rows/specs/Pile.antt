@@ -18,7 +18,7 @@ use Rattle.terms.specs.Walk.{span, term-ends}
 use Rattle.search.specs.Children.{entries, others}
 use Rattle.rows.specs.declared.parts.Part.{Part}
 use Rattle.rows.specs.declared.parts.Part.the-variants.{Entries, Others}
-use Rattle.rows.specs.Flat.{holds}
+use Rattle.rows.specs.HeldWords.{holds}
 use Rattle.rows.specs.Ended.{term-end}
 
 -- is the entry of an unknown wanted?

@@ -14,7 +14,7 @@ use Rattle.terms.specs.Lists.{any, cases}
 use Rattle.terms.specs.Term.{Term, unknown, words, members, kernel, occurs}
 use Rattle.terms.specs.Shape.{is-unknown, number}
 use Rattle.terms.specs.Formed.{Formed, formed-unknown, formed-empty, formed-with, formed-functor}
-use Rattle.terms.specs.Members.{formed-kernel}
+use Rattle.terms.specs.FormedParts.{formed-kernel}
 use Rattle.terms.specs.Flat.{eqb-shift}
 use Rattle.walks.specs.declared.occurrence.Occurrence.{Occurrence}
 use Rattle.walks.specs.declared.occurrence.Occurrence.the-variants.{Absent, Tail, Inside}
@@ -25,7 +25,7 @@ use Rattle.search.specs.declared.steps.Step.{Step}
 use Rattle.search.specs.declared.steps.Step.the-variants.{Drop, Bind, Postpone, Decompose, Split, Dead}
 use Rattle.search.specs.Classify.{tails-by, tails, only-tail, meet-by, meet, classify}
 use Rattle.rows.specs.Stripped.{kernel-at, kernel-at-words, kernel-place}
-use Rattle.rows.specs.Members.{head-word, head-words, head-kernel, head-unknown}
+use Rattle.rows.specs.MemberWords.{head-word, head-words, head-kernel, head-unknown}
 
 unfoldable pub unknown-word : Bounds → ℕ → Bool
 unknown-word b w = within (b .first-unknown) (b .unknown-words) w

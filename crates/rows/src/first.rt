@@ -4,7 +4,6 @@ ghost use Prim.Native.Nat.{_+_, _≤_, _<_, _^_};
 ghost use lib.ListN.{length};
 ghost use Rattle.terms.specs.Bounds.{edition-one};
 ghost use Rattle.rows.specs.First.{first-in, subject-in, header-in, rest-after, HeaderParts};
-use crate::header::HEADER;
 use crate::header::Header;
 use crate::parts::Rest;
 use crate::step::step_for;
@@ -12,6 +11,7 @@ use crate::step::word_at;
 use crate::walk::end_of_term;
 use crate::walk::is_unknown;
 use crate::walk::wide;
+use room::layout::HEADER;
 use search::steps::Step;
 
 // The step, the place of the right side, and the place after it.

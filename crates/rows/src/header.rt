@@ -1,9 +1,8 @@
-// A row of the room: eight words of header, then the body. specs/Row.antt says which word is what.
+// A row of the room: the words of its header, then the body. specs/Row.antt says which word is what.
 ghost use mathlib.Core.Path.{_≡_};
 ghost use Rattle.room.specs.Room.{put, Within};
+ghost use Rattle.room.specs.Layout.{HEADER};
 ghost use Rattle.rows.specs.Header.{header-of, Small};
-
-pub const HEADER: usize = 8;
 
 // The numbers of a header: the words of the pending equations, of the pile and of the whole body, the number of bindings, the next unknown.
 pub struct Header {
@@ -16,7 +15,7 @@ pub struct Header {
 
 // Writes a header, whose row has no child yet.
 pub fn seal(room: &mut [u16], at: usize, header: Header)
-    requires { ⌜ Within (now room) at 8 × Small header ⌝ }
+    requires { ⌜ Within (now room) at HEADER × Small header ⌝ }
     ensures { λ _. ⌜ now (room .exit) ≡ put (now (room .entry)) at (header-of header) ⌝ }
 {
     let words = [

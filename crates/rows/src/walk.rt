@@ -3,11 +3,11 @@ ghost use mathlib.Core.Path.{_≡_};
 ghost use Prim.Native.Nat.{_<_, _^_};
 ghost use lib.ListN.{length};
 ghost use mathlib.Core.Bool.{_&&_};
-ghost use Rattle.terms.specs.Bounds.{edition-one};
+ghost use Rattle.terms.specs.Bounds.{edition-one, FIRST-UNKNOWN, UNKNOWN-WORDS};
 ghost use Rattle.terms.specs.Kind.{takes, within};
 ghost use Rattle.rows.specs.Ended.{term-end};
 ghost use Rattle.rows.specs.Stripped.{kernel-at};
-ghost use Rattle.rows.specs.Flat.{holds};
+ghost use Rattle.rows.specs.HeldWords.{holds};
 use terms::bounds::FIRST_FUNCTOR;
 use terms::bounds::FIRST_UNKNOWN;
 
@@ -19,7 +19,7 @@ pub fn wide(word: u16) -> usize
 
 // Whether a word is an unknown's.
 pub fn is_unknown(word: u16) -> bool
-    ensures { λ r. ⌜ r ≡ within 1000 1000 word ⌝ }
+    ensures { λ r. ⌜ r ≡ within FIRST-UNKNOWN UNKNOWN-WORDS word ⌝ }
 {
     FIRST_UNKNOWN <= word && word < FIRST_FUNCTOR
 }

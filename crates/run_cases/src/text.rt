@@ -8,9 +8,9 @@ use crate::lent::Loan;
 use crate::lent::SIZE;
 use crate::lent::refused;
 use crate::lent::run_lent;
+use case_fields::line::first_bytes;
+use case_fields::line::first_words;
 use case_lines::answer::Answer;
-use fields::line::first_bytes;
-use fields::line::first_words;
 use reader::question::read_question;
 use results::read::Question;
 

@@ -5,6 +5,7 @@ use mathlib.Core.Path.{_≡_, sym, ap, _∙_}
 use mathlib.Core.Bool.{true, false, cond}
 use mathlib.Core.List.{List, _∷_}
 use native.Mathlib.Omega.{arith}
+use Rattle.room.specs.Layout.{stride}
 use Rattle.search.specs.declared.limits.Limits.{Limits}
 use Rattle.rows.specs.declared.parts.Reached.the-variants.{Live}
 use Rattle.results.specs.declared.ran.Record.{Record}
@@ -20,7 +21,7 @@ use Rattle.terms.specs.Lists.{cases}
 
 module _ {arities : List ℕ} {limits : Limits} {l a : List ℕ} {level shown : ℕ} {r : Record} {to : Given} (R : Running arities limits l a level shown r to) where
   abbrev at : ℕ
-  at = level * (limits .size + 8)
+  at = level * stride (limits .size)
 
   pub looking : Looking arities l at level (R .top .child) (limits .size) (scratch-of limits) (most-of limits level r) shown (R .top .state)
   looking = record {

@@ -8,14 +8,16 @@ use lib.Dec.{leb}
 use lib.ListN.{length, drop}
 use borrow.Author.Tests.{leb-true, leb-false}
 use Rattle.room.specs.Parts.{row-within}
+use Rattle.room.specs.Layout.{HEADER, SPARE-ROWS, stride}
 use Rattle.terms.specs.Bounds.{edition-one}
 use Rattle.terms.specs.Lists.{cases}
 use Rattle.search.specs.declared.limits.Limits.{Limits}
 use Rattle.search.specs.State.{Node}
 use Rattle.search.specs.Children.{children}
-use Rattle.turns.specs.Going.{Open, to-come}
+use Rattle.search.specs.RunLimits.{most-depth, most-size}
+use Rattle.search_laws.specs.Going.{Open, to-come}
 use Rattle.results.specs.declared.ran.Record.{Record}
-use Rattle.record.specs.Counts.{counted}
+use Rattle.answer_record.specs.Counts.{counted}
 use Rattle.only_child.specs.Next.{dead-ends, Ready}
 use Rattle.search_loop.specs.ChildrenPassed.{to-come-deads, deads-pass}
 use Rattle.search_loop.specs.Path.{Row, Rows, a-row}
@@ -24,7 +26,7 @@ use Rattle.visits.specs.DueNode.{most-of}
 use Rattle.search_loop.specs.Running.{Given, given, remains, Running}
 use Rattle.search_loop.proofs.Sounding.{sound}
 
-pub top-row : {arities : List ℕ} {size visited : ℕ} {l : List ℕ} {o : Open} {path : List Open} → Rows arities size visited l (o ∷ path) → Row arities size visited l (length path * (size + 8)) o
+pub top-row : {arities : List ℕ} {size visited : ℕ} {l : List ℕ} {o : Open} {path : List Open} → Rows arities size visited l (o ∷ path) → Row arities size visited l (length path * stride size) o
 top-row (a-row R Rs) = R
 
 pub rows-above : {arities : List ℕ} {size visited : ℕ} {l : List ℕ} {o : Open} {path : List Open} → Rows arities size visited l (o ∷ path) → Rows arities size visited l path
@@ -45,23 +47,23 @@ unfolding most-of
 most-left limits level r h =
     cases (leb (limits .depth) level) (λ t. let g = leb-true (limits .depth) level t in absurd (omega arith)) (λ f. rw f)
 
-pub needed-small : (limits : Limits) → limits .depth ≤ 1024 → limits .size ≤ 8192 → needed limits ≤ 8462400
+pub needed-small : (limits : Limits) → limits .depth ≤ most-depth → limits .size ≤ most-size → needed limits ≤ 8462400
 unfolding needed
-needed-small limits d s = mul-le-mul {n₁ = limits .depth + 8} {m₁ = limits .size + 8} {n₂ = 1032} {m₂ = 8200} (omega arith) (omega arith)
+needed-small limits d s = mul-le-mul {n₁ = limits .depth + SPARE-ROWS} {m₁ = limits .size + HEADER} {n₂ = 1032} {m₂ = 8200} (omega arith) (omega arith)
 
-pub needed-rows : (limits : Limits) → (limits .depth + 1) * (limits .size + 8) + 7 * (limits .size + 8) ≡ needed limits
+pub needed-rows : (limits : Limits) → (limits .depth + 1) * stride (limits .size) + 7 * stride (limits .size) ≡ needed limits
 unfolding needed
 needed-rows limits =
-    sym (add-mul (limits .depth + 1) 7 (limits .size + 8)) ∙ ap (λ (n : ℕ). n * (limits .size + 8)) (rows-in-all (limits .depth))
+    sym (add-mul (limits .depth + 1) 7 (stride (limits .size))) ∙ ap (λ (n : ℕ). n * stride (limits .size)) (rows-in-all (limits .depth))
   where
-    rows-in-all : (d : ℕ) → d + 1 + 7 ≡ d + 8
+    rows-in-all : (d : ℕ) → d + 1 + 7 ≡ d + HEADER
     rows-in-all d = omega arith
 
 module _ {arities : List ℕ} {limits : Limits} {l a : List ℕ} {level shown : ℕ} {r : Record} {to : Given} (R : Running arities limits l a level shown r to) where
-  pub row-here : Row arities (limits .size) (r .visited) l (level * (limits .size + 8)) (R .top)
+  pub row-here : Row arities (limits .size) (r .visited) l (level * stride (limits .size)) (R .top)
   row-here = rw (R .levels) at (top-row (R .rows))
 
-  pub ready : Ready arities l (level * (limits .size + 8)) (R .top .child) (limits .size) ((limits .depth + 1) * (limits .size + 8)) (most-of limits level r) (R .top .state)
+  pub ready : Ready arities l (level * stride (limits .size)) (R .top .child) (limits .size) ((limits .depth + 1) * stride (limits .size)) (most-of limits level r) (R .top .state)
   ready =
       let S = R .suits in
       let h = row-here in
@@ -70,9 +72,9 @@ module _ {arities : List ℕ} {limits : Limits} {l a : List ℕ} {level shown : 
         sound = sound (S .table) (h .few) (h .orderly);
         holds = h .holds;
         fits = h .small;
-        row = row-within (limits .size + 8) {i = level} {rows = limits .depth + 1} (omega (arith, R .deep)) (omega arith);
+        row = row-within (stride (limits .size)) {i = level} {rows = limits .depth + 1} (omega (arith, R .deep)) (omega arith);
         child = λ some.
-            omega (arith, suc-mul level (limits .size + 8), row-within (limits .size + 8) {i = suc level} {rows = limits .depth + 1} {n = (limits .depth + 1) * (limits .size + 8)} (omega (arith, most-deep limits level r some)) (omega arith));
+            omega (arith, suc-mul level (stride (limits .size)), row-within (stride (limits .size)) {i = suc level} {rows = limits .depth + 1} {n = (limits .depth + 1) * (stride (limits .size))} (omega (arith, most-deep limits level r some)) (omega arith));
         scratch-rows = omega (arith, S .room);
         lent-small = S .size;
         small = S .short;

@@ -6,12 +6,14 @@ use mathlib.Core.List.{List}
 use native.Mathlib.Omega.{arith}
 use lib.ListN.{length, take, drop}
 use Rattle.room.specs.Room.{seg}
+use Rattle.room.specs.Layout.{stride}
 use Rattle.search.specs.declared.limits.Limits.{Limits}
 use Rattle.search.specs.State.{State}
+use Rattle.search.specs.RunLimits.{most-steps}
 use Rattle.rows.specs.declared.parts.Reached.{Reached}
 use Rattle.rows.specs.declared.parts.Reached.the-variants.{Names as ManyNames, Large, Live}
 use Rattle.results.specs.declared.ran.Record.{Record}
-use Rattle.record.specs.Counts.{counted}
+use Rattle.answer_record.specs.Counts.{counted}
 use Rattle.only_child.specs.declared.next.Looked.{Looked}
 use Rattle.only_child.specs.declared.next.Next.the-variants.{Spent, Node as Found, Due}
 use Rattle.results.specs.declared.ran.Ending.{Ending}
@@ -30,7 +32,7 @@ use Rattle.search_loop.proofs.Turning.{Told, told-few, due-few, node-fe
 
 module _ {arities : List ℕ} {limits : Limits} {l a : List ℕ} {level shown : ℕ} {r : Record} {to : Given} (R : Running arities limits l a level shown r to) where
   abbrev at : ℕ
-  at = level * (limits .size + 8)
+  at = level * stride (limits .size)
 
   -- the number in the deepest row's header
   pub number-here : {n : ℕ} → n ≡ number-of (take (at + 7 - (at + 5)) (drop (at + 5) l)) → n ≡ R .top .child
@@ -52,13 +54,13 @@ module _ {arities : List ℕ} {limits : Limits} {l a : List ℕ} {level shown : 
       heard : Told R (x .next) l₁
       heard = looks .child
 
-      pub spent-few : {k : ℕ} → x .next ≡ Spent k → r .visited + k ≤ 1000000000
+      pub spent-few : {k : ℕ} → x .next ≡ Spent k → r .visited + k ≤ most-steps
       spent-few e = omega (arith, told-few R (rw e at heard), R .steps, R .suits .steps)
 
-      pub due-few-steps : {k : ℕ} → x .next ≡ Due k → r .visited + k ≤ 1000000000
+      pub due-few-steps : {k : ℕ} → x .next ≡ Due k → r .visited + k ≤ most-steps
       due-few-steps e = omega (arith, due-few R (rw e at heard), R .steps, R .suits .steps)
 
-      pub node-few-steps : {k : ℕ} {node : Reached} → x .next ≡ Found k node → (r .visited + k ≤ 1000000000) × (n + k ≤ 1000000000)
+      pub node-few-steps : {k : ℕ} {node : Reached} → x .next ≡ Found k node → (r .visited + k ≤ most-steps) × (n + k ≤ most-steps)
       node-few-steps e =
           let f = node-few R (rw e at heard) in
           let p = row-here R .passed in

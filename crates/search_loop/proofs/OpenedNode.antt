@@ -9,6 +9,7 @@ use lib.Dec.{leb}
 use lib.ListN.{length, drop, length-append}
 use borrow.Author.Tests.{leb-true, leb-false}
 use Rattle.room.specs.Room.{seg, put, length-put, put-put, put-nil}
+use Rattle.room.specs.Layout.{HEADER, stride}
 use Rattle.terms.specs.Bounds.{edition-one}
 use Rattle.terms.specs.Lists.{All, none, both, cases}
 use Rattle.terms.specs.Answers.{listed, listed-append}
@@ -20,13 +21,13 @@ use Rattle.search.specs.Run.{Visit, visit, Outcome, Answer, silent, states, fou
 use Rattle.invariants.specs.Orderly.{Orderly}
 use Rattle.invariants.specs.Tree.{orderly-children, Live as Is-live, is-live}
 use Rattle.search.specs.Verdicts.{allowed}
-use Rattle.turns.specs.Going.{Open, resumed, left, to-come, run-goes-on, run-overflows}
+use Rattle.search_laws.specs.Going.{Open, resumed, left, to-come, run-goes-on, run-overflows}
 use Rattle.rows.specs.declared.parts.Reached.the-variants.{Live}
 use Rattle.rows.specs.Made.{of-reached}
 use Rattle.rows.specs.Row.{Fresh, Makes}
 use Rattle.results.specs.declared.ran.Record.{Record}
-use Rattle.record.specs.Counts.{counted, with-answers, fits, answer-in, note-by, held-by}
-use Rattle.record.specs.RowAnswer.{answer-held, held-notable}
+use Rattle.answer_record.specs.Counts.{counted, with-answers, fits, answer-in, note-by, held-by}
+use Rattle.answer_record.specs.RowAnswer.{answer-held, held-notable}
 use Rattle.only_child.specs.declared.next.Next.the-variants.{Node as Found}
 use Rattle.only_child.specs.Became.{few-names, small-enough}
 use Rattle.only_child.specs.Next.{dead-ends, Tells, then-live}
@@ -95,7 +96,7 @@ module _ {arities : List ℕ} {limits : Limits} {l a : List ℕ} {level shown : 
     (h : k < most-of limits level r) (e : drop (R .top .child) (children (R .top .state)) ≡ dead-ends k ++ (live next ∷ rest))
     (M : Makes edition-one l (child-place limits level) (limits .size) (live next) (of-reached Live) l₁) where
   abbrev at : ℕ
-  at = level * (limits .size + 8)
+  at = level * stride (limits .size)
 
   fresh : Fresh edition-one l₁ (child-place limits level) next
   unfolding of-reached
@@ -112,7 +113,7 @@ module _ {arities : List ℕ} {limits : Limits} {l a : List ℕ} {level shown : 
   orderly : Orderly arities next
   orderly = live-orderly (child-of (R .top .child + k) (orderly-children (R .top .state) (row-here R .orderly)) (passed R k (omega arith) e .0))
 
-  within : child-place limits level + (limits .size + 8) ≤ length l₁
+  within : child-place limits level + stride (limits .size) ≤ length l₁
   within = let y = ready R in omega (arith, y .child (omega arith), y .scratch-rows)
 
   abbrev v : Visit
@@ -120,7 +121,7 @@ module _ {arities : List ℕ} {limits : Limits} {l a : List ℕ} {level shown : 
 
   answer : answer-in (child-row limits level l₁) ≡ found edition-one (v .answer)
   unfolding visit
-  answer = answer-held (fresh .holds) (limits .size + 8) within (omega (arith, small))
+  answer = answer-held (fresh .holds) (stride (limits .size)) within (omega (arith, small))
 
   pub open-parts : OpenParts limits level l₁ a (counted r k) (R .top .child + k)
   open-parts =
@@ -133,7 +134,7 @@ module _ {arities : List ℕ} {limits : Limits} {l a : List ℕ} {level shown : 
         visited = omega (arith, S .steps, R .steps);
         number-small = omega (arith, S .steps, R .steps, y .passed);
         within = within;
-        notable = held-notable (fresh .holds) (limits .size + 8) within (omega (arith, small)) (R .words) (omega (arith, R .answers, R .steps, S .steps));
+        notable = held-notable (fresh .holds) (stride (limits .size)) within (omega (arith, small)) (R .words) (omega (arith, R .answers, R .steps, S .steps));
       }
 
   -- ---- the rows of the longer path
@@ -147,10 +148,10 @@ module _ {arities : List ℕ} {limits : Limits} {l a : List ℕ} {level shown : 
   abbrev here : Open
   here = record { state = R .top .state; child = suc (R .top .child + k) }
 
-  here-within : at + 8 ≤ length l₁
+  here-within : at + HEADER ≤ length l₁
   here-within = omega (arith, within)
 
-  here-row : Row arities (limits .size) (r .visited + k + 1) l₂ (length (R .above) * (limits .size + 8)) here
+  here-row : Row arities (limits .size) (r .visited + k + 1) l₂ (length (R .above) * stride (limits .size)) here
   here-row =
       let y = row-here R in
       rw (R .levels)
@@ -163,10 +164,10 @@ module _ {arities : List ℕ} {limits : Limits} {l a : List ℕ} {level shown : 
         passed = omega (arith, y .passed);
       })
 
-  child-here : length (here ∷ R .above) * (limits .size + 8) ≡ child-place limits level
-  child-here = suc-mul (length (R .above)) (limits .size + 8) ∙ ap (λ (n : ℕ). n * (limits .size + 8) + (limits .size + 8)) (R .levels)
+  child-here : length (here ∷ R .above) * stride (limits .size) ≡ child-place limits level
+  child-here = suc-mul (length (R .above)) (stride (limits .size)) ∙ ap (λ (n : ℕ). n * stride (limits .size) + stride (limits .size)) (R .levels)
 
-  child-row-holds : Row arities (limits .size) (r .visited + k + 1) l₂ (length (here ∷ R .above) * (limits .size + 8)) (record { state = next; child = 0 })
+  child-row-holds : Row arities (limits .size) (r .visited + k + 1) l₂ (length (here ∷ R .above) * stride (limits .size)) (record { state = next; child = 0 })
   child-row-holds =
       rw child-here
       (record {
@@ -193,7 +194,7 @@ module _ {arities : List ℕ} {limits : Limits} {l a : List ℕ} {level shown : 
       → Desk l₂ (limits .size) (scratch-of limits) (record { state = next; child = 0 } ∷ here ∷ R .above) shown₁
   child-desk D =
       open-above
-      (desk-kept (part-after l₁ at number (scratch-of limits) (3 * (limits .size + 8)) (omega (arith, ready R .row))) (rows-above rows-then) D)
+      (desk-kept (part-after l₁ at number (scratch-of limits) (3 * stride (limits .size)) (omega (arith, ready R .row))) (rows-above rows-then) D)
 
   -- ---- the turn
 

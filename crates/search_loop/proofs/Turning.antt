@@ -8,6 +8,7 @@ use lib.Dec.{leb}
 use lib.ListN.{length, drop}
 use borrow.Author.Tests.{leb-true, leb-false, ne-eqb}
 use Rattle.room.specs.Room.{put-nil}
+use Rattle.room.specs.Layout.{stride}
 use Rattle.terms.specs.Bounds.{edition-one}
 use Rattle.terms.specs.Answers.{listed}
 use Rattle.terms.specs.Lists.{cases}
@@ -17,11 +18,11 @@ use Rattle.search.specs.declared.limits.Limits.{Limits}
 use Rattle.search.specs.State.{State, Node, dead, live}
 use Rattle.search.specs.Children.{children}
 use Rattle.search.specs.Run.{Visit, visit, dead-visit, stops, verdict, scan}
-use Rattle.turns.specs.Going.{Open, resumed, left, to-come, to-come-spent, to-come-dead, to-come-live, run-stops}
-use Rattle.turns.specs.ChoiceNumbers.{drop-next}
+use Rattle.search_laws.specs.Going.{Open, resumed, left, to-come, to-come-spent, to-come-dead, to-come-live, run-stops}
+use Rattle.search_laws.specs.ChoiceNumbers.{drop-next}
 use Rattle.rows.specs.declared.parts.Reached.{Reached}
 use Rattle.results.specs.declared.ran.Record.{Record}
-use Rattle.record.specs.Counts.{counted}
+use Rattle.answer_record.specs.Counts.{counted}
 use Rattle.only_child.specs.declared.next.Next.{Next}
 use Rattle.only_child.specs.declared.next.Next.the-variants.{Spent, Node as Found, Due}
 use Rattle.visits.specs.declared.node.Turn.the-variants.{End}
@@ -84,31 +85,28 @@ pub suits-kept : {arities : List ℕ} {limits : Limits} {l r : List ℕ} → len
 suits-kept e S = record { steps = S .steps; depth = S .depth; size = S .size; table = S .table; room = rw e (S .room); short = rw e (S .short) }
 
 module _ {arities : List ℕ} {limits : Limits} {l a : List ℕ} {level shown : ℕ} {r : Record} {to : Given} (R : Running arities limits l a level shown r to) where
-  abbrev pub stride : ℕ
-  stride = limits .size + 8
-
   abbrev pub most : ℕ
   most = most-of limits level r
 
   abbrev pub Told : Next → List ℕ → Type 0
-  Told n l₁ = Child l (level * stride) (R .top .child) (limits .size) most (R .top .state) n l₁
+  Told n l₁ = Child l (level * stride (limits .size)) (R .top .child) (limits .size) most (R .top .state) n l₁
 
   pub told-few : {k : ℕ} {l₁ : List ℕ} → Told (Spent k) l₁ → k ≤ limits .steps - r .visited
   told-few C = go (C .tells)
     where
-      go : {ns : List Node} {l₁ : List ℕ} {k : ℕ} → Tells l (level * stride + stride) (limits .size) ns most l₁ (Spent k) → k ≤ limits .steps - r .visited
+      go : {ns : List Node} {l₁ : List ℕ} {k : ℕ} → Tells l (level * stride (limits .size) + stride (limits .size)) (limits .size) ns most l₁ (Spent k) → k ≤ limits .steps - r .visited
       go (all-dead h e) = omega (arith, most-few limits level r)
 
   pub due-few : {k : ℕ} {l₁ : List ℕ} → Told (Due k) l₁ → k ≤ limits .steps - r .visited
   due-few C = go (C .tells)
     where
-      go : {ns : List Node} {l₁ : List ℕ} {k : ℕ} → Tells l (level * stride + stride) (limits .size) ns most l₁ (Due k) → k ≤ limits .steps - r .visited
+      go : {ns : List Node} {l₁ : List ℕ} {k : ℕ} → Tells l (level * stride (limits .size) + stride (limits .size)) (limits .size) ns most l₁ (Due k) → k ≤ limits .steps - r .visited
       go (then-due node rest h e) = omega (arith, most-few limits level r)
 
   pub node-few : {k : ℕ} {m : Reached} {l₁ : List ℕ} → Told (Found k m) l₁ → k < limits .steps - r .visited
   node-few C = go (C .tells)
     where
-      go : {ns : List Node} {l₁ : List ℕ} {k : ℕ} {m : Reached} → Tells l (level * stride + stride) (limits .size) ns most l₁ (Found k m) → k < limits .steps - r .visited
+      go : {ns : List Node} {l₁ : List ℕ} {k : ℕ} {m : Reached} → Tells l (level * stride (limits .size) + stride (limits .size)) (limits .size) ns most l₁ (Found k m) → k < limits .steps - r .visited
       go (then-live next rest h e M) = omega (arith, most-few limits level r)
 
   -- no child is left
@@ -116,7 +114,7 @@ module _ {arities : List ℕ} {limits : Limits} {l a : List ℕ} {level shown : 
   unfolding back-to
   turned-spent {k} {shown₁} {l₁} C D = go (C .tells)
     where
-      up : (path : List Open) (n : ℕ) → length path ≡ n → Rows arities (limits .size) (r .visited) l path → Desk l₁ (limits .size) (scratch-of limits) path shown₁ → n * stride ≤ level * stride + stride → n ≤ limits .depth + 1 → k ≤ limits .steps - r .visited
+      up : (path : List Open) (n : ℕ) → length path ≡ n → Rows arities (limits .size) (r .visited) l path → Desk l₁ (limits .size) (scratch-of limits) path shown₁ → n * stride (limits .size) ≤ level * stride (limits .size) + stride (limits .size) → n ≤ limits .depth + 1 → k ≤ limits .steps - r .visited
           → level ≡ n → to ≡ given (counted r k) a (remains limits (counted r k) (length a) (to-come (limits .depth) path)) → Turned arities limits l₁ a level r to (back-to n (counted r k)) shown₁
       up [] n e Rs S w d f same g =
           rw (sym e) (ends (g ∙ ap (λ vs. given (counted r k) a (remains limits (counted r k) (length a) vs)) (nothing-to-come (limits .depth)) ∙ done-here limits (counted r k) a))
@@ -128,7 +126,7 @@ module _ {arities : List ℕ} {limits : Limits} {l a : List ℕ} {level shown : 
             suits = suits-kept (C .long) (R .suits);
             top = o;
             above = path;
-            rows = rows-kept l l₁ (level * stride + stride) (C .below) (C .long) {more = r .visited + k} (omega arith) (o ∷ path) (rw e w) Rs;
+            rows = rows-kept l l₁ (level * stride (limits .size) + stride (limits .size)) (C .below) (C .long) {more = r .visited + k} (omega arith) (o ∷ path) (rw e w) Rs;
             levels = omega arith;
             desk = S;
             deep = omega arith;
@@ -139,7 +137,7 @@ module _ {arities : List ℕ} {limits : Limits} {l a : List ℕ} {level shown : 
           })
           (omega arith))
 
-      go : {l₂ : List ℕ} → Tells l (level * stride + stride) (limits .size) (drop (R .top .child) (children (R .top .state))) most l₂ (Spent k)
+      go : {l₂ : List ℕ} → Tells l (level * stride (limits .size) + stride (limits .size)) (limits .size) (drop (R .top .child) (children (R .top .state))) most l₂ (Spent k)
           → Turned arities limits l₁ a level r to (back-to level (counted r k)) shown₁
       go (all-dead h e) =
           let p = passed R k h e in
@@ -167,6 +165,6 @@ module _ {arities : List ℕ} {limits : Limits} {l a : List ℕ} {level shown : 
           (g ∙ ap (λ vs. given (counted r k) a (remains limits (counted r k) (length a) vs))
           (to-come-live (limits .depth) (R .top .state) (R .above) (R .top .child + k) next rest e (drop-next (R .top .child + k) (children (R .top .state)) _ _ e) (omega (arith, R .levels, R .deep))))
 
-      go : {l₂ : List ℕ} → Tells l (level * stride + stride) (limits .size) (drop (R .top .child) (children (R .top .state))) most l₂ (Due k)
+      go : {l₂ : List ℕ} → Tells l (level * stride (limits .size) + stride (limits .size)) (limits .size) (drop (R .top .child) (children (R .top .state))) most l₂ (Due k)
           → Turned arities limits l₁ a level r to (End (due-ending limits (counted r k))) shown₁
       go (then-due node rest h e) = let p = passed R k (omega arith) e in by-node node rest (p .0) h (p .1)

@@ -4,18 +4,19 @@ use mathlib.Core.Path.{_≡_, ap, _∙_}
 use mathlib.Core.List.{List, _∷_, _++_}
 use native.Mathlib.Omega.{arith}
 use lib.ListN.{length, drop}
+use Rattle.room.specs.Layout.{stride}
 use Rattle.terms.specs.Bounds.{edition-one}
 use Rattle.search.specs.declared.ends.End.the-variants.{Names, Size}
 use Rattle.search.specs.declared.limits.Limits.{Limits}
 use Rattle.search.specs.State.{State, Node, live}
 use Rattle.search.specs.Children.{children}
 use Rattle.search.specs.Run.{Visit, visit}
-use Rattle.turns.specs.Going.{left, to-come, to-come-live}
-use Rattle.turns.specs.ChoiceNumbers.{drop-next}
+use Rattle.search_laws.specs.Going.{left, to-come, to-come-live}
+use Rattle.search_laws.specs.ChoiceNumbers.{drop-next}
 use Rattle.rows.specs.declared.parts.Reached.the-variants.{Names as ManyNames, Large}
 use Rattle.rows.specs.Made.{of-reached}
 use Rattle.results.specs.declared.ran.Record.{Record}
-use Rattle.record.specs.Counts.{counted}
+use Rattle.answer_record.specs.Counts.{counted}
 use Rattle.only_child.specs.declared.next.Next.the-variants.{Node as Found}
 use Rattle.only_child.specs.Became.{many-names, few-names, too-large}
 use Rattle.only_child.specs.Next.{dead-ends, Tells, then-live}
@@ -54,7 +55,7 @@ module _ {arities : List ℕ} {limits : Limits} {l a : List ℕ} {level shown : 
   unfolding visit of-reached
   turned-names {k} {shown₁} {l₁} C = go (C .tells)
     where
-      go : {l₂ : List ℕ} → Tells l (level * (limits .size + 8) + (limits .size + 8)) (limits .size) (drop (R .top .child) (children (R .top .state))) (most-of limits level r) l₂ (Found k ManyNames)
+      go : {l₂ : List ℕ} → Tells l (level * stride (limits .size) + stride (limits .size)) (limits .size) (drop (R .top .child) (children (R .top .state))) (most-of limits level r) l₂ (Found k ManyNames)
           → Turned arities limits l₁ a level r to (End (record { end = Names; counts = counted r k })) shown₁
       go (then-live next rest h e M) =
           let o = open-to k h in
@@ -65,7 +66,7 @@ module _ {arities : List ℕ} {limits : Limits} {l a : List ℕ} {level shown : 
   unfolding visit left loan of-reached
   turned-large {k} {shown₁} {l₁} C = go (C .tells)
     where
-      go : {l₂ : List ℕ} → Tells l (level * (limits .size + 8) + (limits .size + 8)) (limits .size) (drop (R .top .child) (children (R .top .state))) (most-of limits level r) l₂ (Found k Large)
+      go : {l₂ : List ℕ} → Tells l (level * stride (limits .size) + stride (limits .size)) (limits .size) (drop (R .top .child) (children (R .top .state))) (most-of limits level r) l₂ (Found k Large)
           → Turned arities limits l₁ a level r to (End (record { end = Size; counts = counted r k })) shown₁
       go (then-live next rest h e M) =
           let o = open-to k h in

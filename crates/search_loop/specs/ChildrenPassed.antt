@@ -14,8 +14,8 @@ use Rattle.search.specs.State.{State, Node}
 use Rattle.search.specs.Children.{children}
 use Rattle.search.specs.Run.{Visit, dead-visit, Loan, found, found-size, stops, overflows, ends, verdict, scan}
 use Rattle.search.specs.Verdicts.{Allows, allowed}
-use Rattle.turns.specs.Going.{resumed, left, Open, to-come, to-come-dead, run-goes-on}
-use Rattle.turns.specs.ChoiceNumbers.{drop-next}
+use Rattle.search_laws.specs.Going.{resumed, left, Open, to-come, to-come-dead, run-goes-on}
+use Rattle.search_laws.specs.ChoiceNumbers.{drop-next}
 use Rattle.only_child.specs.Next.{dead-ends}
 
 unfoldable pub dead-visits : ℕ → ℕ → List Visit

@@ -5,7 +5,8 @@ use mathlib.Core.List.{List, _∷_}
 use native.Mathlib.Omega.{arith}
 use lib.ListN.{length}
 use Rattle.room.specs.Room.{seg}
-use Rattle.turns.specs.Going.{Open}
+use Rattle.room.specs.Layout.{stride}
+use Rattle.search_laws.specs.Going.{Open}
 use Rattle.pick_loop.specs.Shown.{shown-kept}
 use Rattle.children.specs.Looking.{Stands}
 use Rattle.search_loop.specs.Path.{Rows, a-row}
@@ -38,7 +39,7 @@ module _ {l : List ℕ} {lent scratch : ℕ} where
 
 -- ---- it stands open while the rows of scratch are as they were
 
-module _ {l r : List ℕ} {lent scratch : ℕ} (kept : seg r scratch (3 * (lent + 8)) ≡ seg l scratch (3 * (lent + 8))) where
+module _ {l r : List ℕ} {lent scratch : ℕ} (kept : seg r scratch (3 * stride lent) ≡ seg l scratch (3 * stride lent)) where
   pub desk-kept : {arities m : List ℕ} {visited k : ℕ} {path : List Open} → Rows arities lent visited m path → Desk l lent scratch path k → Desk r lent scratch path k
   desk-kept Rs nothing-open = nothing-open
   desk-kept (a-row R Rs) (open-here S) = open-here (record { last = S .last; after = S .after; shown = shown-kept kept (R .small) (S .shown) })

@@ -8,10 +8,11 @@ use native.Mathlib.Nat.{suc-mul, zero-add}
 use lib.ListN.{length, take}
 use Rattle.room.specs.Room.{seg, put, Within, length-put, seg-seg, seg-put-same, take-seg}
 use Rattle.room.specs.Parts.{earlier, later, seg-put}
+use Rattle.room.specs.Layout.{HEADER, stride}
 use Rattle.terms.specs.Bounds.{edition-one}
 use Rattle.search.specs.State.{State, state-size}
 use Rattle.invariants.specs.Orderly.{Orderly}
-use Rattle.turns.specs.Going.{Open}
+use Rattle.search_laws.specs.Going.{Open}
 use Rattle.rows.specs.Row.{Holds, Fresh}
 use Rattle.visits.specs.ChildNumber.{number-words, number-none}
 
@@ -27,7 +28,7 @@ pub record Row (arities : List ℕ) (size visited : ℕ) (l : List ℕ) (at : �
 -- the rows of a path, the deepest state first
 pub data Rows (arities : List ℕ) (size visited : ℕ) (l : List ℕ) : List Open → Type 0 where
   no-rows : Rows arities size visited l []
-  a-row : {o : Open} {path : List Open} → Row arities size visited l (length path * (size + 8)) o → Rows arities size visited l path → Rows arities size visited l (o ∷ path)
+  a-row : {o : Open} {path : List Open} → Row arities size visited l (length path * stride size) o → Rows arities size visited l path → Rows arities size visited l (o ∷ path)
 
 -- ---- what stands before a place is as it was
 
@@ -35,16 +36,16 @@ module _ (l r : List ℕ) (m : ℕ) (kept : seg r 0 m ≡ seg l 0 m) (same : len
   pub part-kept : (k n : ℕ) → k + n ≤ m → seg r k n ≡ seg l k n
   part-kept k n h = rw zero-add at (sym (seg-seg r 0 m k n h) ∙ ap (λ (ws : List ℕ). seg ws k n) kept ∙ seg-seg l 0 m k n h)
 
-  pub holds-kept : {at : ℕ} {st : State} → at + 8 + state-size st ≤ m → Holds edition-one l at st → Holds edition-one r at st
+  pub holds-kept : {at : ℕ} {st : State} → at + HEADER + state-size st ≤ m → Holds edition-one l at st → Holds edition-one r at st
   holds-kept {at} {st} h H =
       record {
         within = omega (arith, H .within);
         header = part-kept at 5 (omega arith) ∙ H .header;
-        body = part-kept (at + 8) (state-size st) (omega arith) ∙ H .body;
+        body = part-kept (at + HEADER) (state-size st) (omega arith) ∙ H .body;
       }
 
   module _ {arities : List ℕ} {size visited more : ℕ} (grown : visited ≤ more) where
-    pub row-kept : {at : ℕ} {o : Open} → at + (size + 8) ≤ m → Row arities size visited l at o → Row arities size more r at o
+    pub row-kept : {at : ℕ} {o : Open} → at + stride size ≤ m → Row arities size visited l at o → Row arities size more r at o
     row-kept {at} h R =
         record {
           holds = holds-kept (omega (arith, R .small)) (R .holds);
@@ -55,15 +56,15 @@ module _ (l r : List ℕ) (m : ℕ) (kept : seg r 0 m ≡ seg l 0 m) (same : len
           passed = omega (arith, R .passed);
         }
 
-    pub rows-kept : (path : List Open) → length path * (size + 8) ≤ m → Rows arities size visited l path → Rows arities size more r path
+    pub rows-kept : (path : List Open) → length path * stride size ≤ m → Rows arities size visited l path → Rows arities size more r path
     rows-kept [] h no-rows = no-rows
     rows-kept (o ∷ path) h (a-row R Rs) =
-        let z = suc-mul (length path) (size + 8) in
+        let z = suc-mul (length path) (stride size) in
         a-row {path = path} (row-kept (omega arith) R) (rows-kept path (omega arith) Rs)
 
 -- ---- a child's number is written, and the child's row stands after it
 
-module _ (l : List ℕ) (at n : ℕ) (within : Within l at 8) where
+module _ (l : List ℕ) (at n : ℕ) (within : Within l at HEADER) where
   abbrev written : List ℕ
   written = put l (at + 5) (number-words n)
 
@@ -83,7 +84,7 @@ module _ (l : List ℕ) (at n : ℕ) (within : Within l at 8) where
         body = seg-put (number-words n) l (later (omega arith)) ∙ H .body;
       }
 
-  pub holds-after : {st : State} {to : ℕ} → at + 8 ≤ to → Holds edition-one l to st → Holds edition-one written to st
+  pub holds-after : {st : State} {to : ℕ} → at + HEADER ≤ to → Holds edition-one l to st → Holds edition-one written to st
   unfolding number-words
   holds-after {st} {to} h H =
       record {

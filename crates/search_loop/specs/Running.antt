@@ -5,12 +5,14 @@ use mathlib.Core.Path.{_≡_}
 use mathlib.Core.List.{List, [], _∷_}
 use lib.ListN.{length}
 use Rattle.room.specs.Room.{put}
+use Rattle.room.specs.Layout.{stride}
 use Rattle.terms.specs.Bounds.{edition-one}
 use Rattle.terms.specs.Answers.{listed}
 use Rattle.checks.specs.Lent.{Table}
 use Rattle.search.specs.declared.limits.Limits.{Limits}
 use Rattle.search.specs.Run.{Visit, Outcome, scan}
-use Rattle.turns.specs.Going.{Open, resumed, left, to-come}
+use Rattle.search.specs.RunLimits.{most-steps, most-depth, most-size}
+use Rattle.search_laws.specs.Going.{Open, resumed, left, to-come}
 use Rattle.results.specs.declared.ran.Record.{Record}
 use Rattle.results.specs.declared.ran.Ending.{Ending}
 use Rattle.visits.specs.declared.node.Turn.{Turn}
@@ -40,16 +42,16 @@ remains limits r space vs = resumed (r .visited) [] (scan edition-one (left (loa
 
 -- what is lent: limits within their bounds, a table of arities, and a room that is large enough
 pub record Suits (arities : List ℕ) (limits : Limits) (l : List ℕ) : Type 0 where
-  pub steps : limits .steps ≤ 1000000000
-  pub depth : limits .depth ≤ 1024
-  pub size : limits .size ≤ 8192
+  pub steps : limits .steps ≤ most-steps
+  pub depth : limits .depth ≤ most-depth
+  pub size : limits .size ≤ most-size
   pub table : Table edition-one arities
   pub room : needed limits ≤ length l
   pub short : length l < 2 ^ 32
 
 -- where scratch begins, after the rows of the path
 abbrev pub scratch-of : Limits → ℕ
-scratch-of limits = (limits .depth + 1) * (limits .size + 8)
+scratch-of limits = (limits .depth + 1) * stride (limits .size)
 
 pub record Running (arities : List ℕ) (limits : Limits) (l a : List ℕ) (level shown : ℕ) (r : Record) (to : Given) : Type 0 where
   pub suits : Suits arities limits l

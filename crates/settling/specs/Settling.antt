@@ -5,8 +5,8 @@ use mathlib.Core.List.{List}
 use mathlib.Core.Bool.{true}
 use lib.ListN.{length, getD}
 use Rattle.laws.specs.Equal.{equal}
-use Rattle.places.specs.Places.{Held, valued}
-use Rattle.places.specs.Classes.{Classes, Coarser, IsSettled, Settled}
+use Rattle.term_places.specs.Places.{Held, valued}
+use Rattle.term_places.specs.Classes.{Classes, Coarser, IsSettled, Settled}
 use Rattle.ranks.specs.Ranks.{RankAt, Ranked}
 
 -- labels of classes, with places settled

@@ -1,9 +1,9 @@
 // Places are settled: each is compared with the settled ones of its rank, the last place first, so that what is inside two terms is settled before they
 // are compared. After that labels alone tell whether two settled places hold equal terms.
-ghost use Rattle.places.specs.Places.{held};
+ghost use Rattle.term_places.specs.Places.{held};
 ghost use Rattle.settling.specs.Settling.{Settling, Settles, Unsettled, AllSettled};
 use compare::compare::same;
-use places::classes::NONE;
+use term_places::classes::NONE;
 
 // Compares the term at p, which has this rank, with the settled ones until one is equal.
 fn meet_settled(

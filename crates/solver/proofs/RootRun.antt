@@ -9,6 +9,7 @@ use lib.ListN.{length, take}
 use borrow.Author.Tests.{leb-true, leb-false}
 use Rattle.room.specs.Room.{seg, length-put}
 use Rattle.room.specs.Parts.{row-within}
+use Rattle.room.specs.Layout.{HEADER, SPARE-ROWS, stride}
 use Rattle.terms.specs.Bounds.{edition-one}
 use Rattle.terms.specs.Answers.{listed}
 use Rattle.terms.specs.Lists.{cases}
@@ -16,12 +17,12 @@ use Rattle.search.specs.declared.ends.End.the-variants.{Space}
 use Rattle.search.specs.declared.limits.Limits.{Limits}
 use Rattle.search.specs.Run.{Visit, visit, found, found-size, root}
 use Rattle.search.specs.Verdicts.{allowed}
-use Rattle.turns.specs.Going.{Open, left, to-come}
+use Rattle.search_laws.specs.Going.{Open, left, to-come}
 use Rattle.results.specs.declared.ran.Record.{Record}
-use Rattle.record.specs.declared.Noted.{Noted}
-use Rattle.record.specs.declared.Noted.the-variants.{Held, Space as NoSpace}
-use Rattle.record.specs.Counts.{counted, with-answers, fits, answer-in, note-by, held-by, Notable}
-use Rattle.record.specs.RowAnswer.{answer-held, held-notable}
+use Rattle.answer_record.specs.declared.Noted.{Noted}
+use Rattle.answer_record.specs.declared.Noted.the-variants.{Held, Space as NoSpace}
+use Rattle.answer_record.specs.Counts.{counted, with-answers, fits, answer-in, note-by, held-by, Notable}
+use Rattle.answer_record.specs.RowAnswer.{answer-held, held-notable}
 use Rattle.results.specs.declared.ran.Ending.{Ending}
 use Rattle.search_loop.specs.Desk.{nothing-open}
 use Rattle.search_loop.specs.ChildrenPassed.{long-overflows}
@@ -31,9 +32,9 @@ use Rattle.search_loop.specs.Running.{Given, given, remains, Suits, Running, En
 use Rattle.solver.specs.Start.{nothing, Rooted}
 use Rattle.search_loop.proofs.OpenedNode.{overflows-here, goes-here, more, then, one-at-most}
 
-pub row-fits : {arities : List ℕ} {limits : Limits} {l : List ℕ} → Suits arities limits l → limits .size + 8 ≤ length l
+pub row-fits : {arities : List ℕ} {limits : Limits} {l : List ℕ} → Suits arities limits l → limits .size + HEADER ≤ length l
 unfolding needed
-row-fits {arities} {limits} {l} S = omega (arith, zero-mul (limits .size + 8), row-within (limits .size + 8) {i = 0} {rows = limits .depth + 8} {n = length l} (omega arith) (S .room))
+row-fits {arities} {limits} {l} S = omega (arith, zero-mul (stride (limits .size)), row-within (stride (limits .size)) {i = 0} {rows = limits .depth + SPARE-ROWS} {n = length l} (omega arith) (S .room))
 
 pub ends-as : {to : Given} {e : Ending} {a : List ℕ} → to ≡ record { ending = e; answers = a } → Ends to e a
 ends-as e = record { ending = ap (λ (g : Given). g .ending) e; answers = ap (λ (g : Given). g .answers) e }
@@ -42,7 +43,7 @@ ends-as e = record { ending = ap (λ (g : Given). g .ending) e; answers = ap (λ
 
 module _ {arities : List ℕ} {limits : Limits} {l a : List ℕ} {to : Given} (S : Rooted arities limits l a to) where
   abbrev first : List ℕ
-  first = take (limits .size + 8) l
+  first = take (stride (limits .size)) l
 
   abbrev v : Visit
   v = visit 0 (S .root)
@@ -52,11 +53,11 @@ module _ {arities : List ℕ} {limits : Limits} {l a : List ℕ} {to : Given} (S
 
   pub root-notable : {one : Record} → one ≡ counted nothing 1 → Notable first a one
   unfolding seg
-  root-notable e = rw e (held-notable (S .fresh .holds) (limits .size + 8) (omega (arith, row-fits (S .suits))) (omega (arith, S .small)) (omega arith) (omega arith))
+  root-notable e = rw e (held-notable (S .fresh .holds) (stride (limits .size)) (omega (arith, row-fits (S .suits))) (omega (arith, S .small)) (omega arith) (omega arith))
 
   answer : answer-in first ≡ found edition-one (v .answer)
   unfolding seg visit
-  answer = answer-held (S .fresh .holds) (limits .size + 8) (omega (arith, row-fits (S .suits))) (omega (arith, S .small))
+  answer = answer-held (S .fresh .holds) (stride (limits .size)) (omega (arith, row-fits (S .suits))) (omega (arith, S .small))
 
   overflowed : length a < found-size edition-one v → to ≡ record { ending = record { end = Space; counts = counted nothing 1 }; answers = a }
   unfolding left loan visit
@@ -73,7 +74,7 @@ module _ {arities : List ℕ} {limits : Limits} {l a : List ℕ} {to : Given} (S
       (allowed edition-one (left (loan limits (length a)) 0 0) v
       (record { steps = omega (arith, S .some); depth = omega arith; names = S .few; size = S .small; space = omega arith }))
 
-  root-row : Row arities (limits .size) 1 l (length {A = Open} [] * (limits .size + 8)) (record { state = S .root; child = 0 })
+  root-row : Row arities (limits .size) 1 l (length {A = Open} [] * stride (limits .size)) (record { state = S .root; child = 0 })
   root-row =
       rw zero-mul
       (record { holds = S .fresh .holds; number = fresh-number (S .fresh); small = S .small; few = S .few; orderly = S .orderly; passed = omega arith })

@@ -7,6 +7,7 @@ use native.Mathlib.Nat.{zero-add}
 use lib.ListN.{length, take, drop}
 use Rattle.room.specs.Room.{seg, put, length-put, seg-put-same, take-seg, drop-seg}
 use Rattle.room.specs.Parts.{later, seg-put}
+use Rattle.room.specs.Layout.{HEADER}
 use Rattle.terms.specs.Bounds.{edition-one}
 use Rattle.terms.specs.Formed.{Question}
 use Rattle.terms.specs.Reading.{question-of}
@@ -17,7 +18,7 @@ use Rattle.search.specs.State.{size-equations, size-named, state-size}
 use Rattle.search.specs.Run.{Visit, visit, root, ran}
 use Rattle.search.specs.StateWords.{pending-words, state-words, length-pending}
 use Rattle.invariants.specs.Tree.{start, start-orderly}
-use Rattle.turns.specs.Going.{left, resumed-none, left-none, to-come, to-come-root}
+use Rattle.search_laws.specs.Going.{left, resumed-none, left-none, to-come, to-come-root}
 use Rattle.rows.specs.Header.{header-of}
 use Rattle.rows.specs.Row.{Fresh, header-for, header-words}
 use Rattle.search_loop.specs.ChildrenPassed.{spent-stops, large-stops}
@@ -59,34 +60,34 @@ module _ {unknowns : ℕ} {arities ws : List ℕ} {limits : Limits} {l : List �
 
   module _ (fits : length ws ≤ limits .size) where
     abbrev first : List ℕ
-    first = put l 8 ws
+    first = put l HEADER ws
 
     abbrev written : List ℕ
     written = rooted l ws unknowns
 
-    room-for : 8 + length ws ≤ length l
+    room-for : HEADER + length ws ≤ length l
     room-for = omega (arith, row-fits (A .suits))
 
     pub root-room : length written ≡ length l
     unfolding rooted
-    root-room = length-put first 0 _ ∙ length-put l 8 ws
+    root-room = length-put first 0 _ ∙ length-put l HEADER ws
 
-    top : seg written 0 8 ≡ header-of (header-for (start q))
+    top : seg written 0 HEADER ≡ header-of (header-for (start q))
     unfolding rooted header-of
-    top = rw root-header (seg-put-same (header-of (record { pending = length ws; pile = 0; body = length ws; bindings = 0; next = unknowns })) first 0 (rw (length-put l 8 ws) (omega (arith, room-for))))
+    top = rw root-header (seg-put-same (header-of (record { pending = length ws; pile = 0; body = length ws; bindings = 0; next = unknowns })) first 0 (rw (length-put l HEADER ws) (omega (arith, room-for))))
 
     fresh : Fresh edition-one written 0 (start q)
     unfolding header-of header-words rooted
     fresh =
-        let z : 0 + 8 ≡ 8 = omega arith in
+        let z : 0 + HEADER ≡ HEADER = omega arith in
         let s = root-size in
         record {
           holds = record {
             within = omega (arith, root-room, room-for);
-            header = sym (take-seg written 0 8 5 (omega arith)) ∙ ap (take 5) top;
-            body = rw (z, s, root-body) (seg-put (header-of (record { pending = length ws; pile = 0; body = length ws; bindings = 0; next = unknowns })) first (later (omega arith)) ∙ seg-put-same ws l 8 (omega (arith, room-for)));
+            header = sym (take-seg written 0 HEADER 5 (omega arith)) ∙ ap (take 5) top;
+            body = rw (z, s, root-body) (seg-put (header-of (record { pending = length ws; pile = 0; body = length ws; bindings = 0; next = unknowns })) first (later (omega arith)) ∙ seg-put-same ws l HEADER (omega (arith, room-for)));
           };
-          unopened = sym (drop-seg written 0 8 5 (omega arith)) ∙ ap (drop 5) top;
+          unopened = sym (drop-seg written 0 HEADER 5 (omega arith)) ∙ ap (drop 5) top;
         }
 
   -- the run's first node

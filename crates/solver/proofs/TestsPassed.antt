@@ -15,7 +15,7 @@ use Rattle.terms.specs.Lists.{cases}
 use Rattle.search.specs.declared.limits.Limits.{Limits}
 use Rattle.search.specs.declared.limits.Lent.{Lent}
 use Rattle.search.specs.declared.limits.Lent.the-variants.{Within, Above}
-use Rattle.search.specs.RunLimits.{lent}
+use Rattle.search.specs.RunLimits.{lent, most-steps, most-depth, most-size}
 use Rattle.results.specs.declared.ran.Ran.the-variants.{Ended}
 use Rattle.results.specs.declared.ran.Ending.{Ending}
 use Rattle.results.specs.Loans.{needed}
@@ -52,13 +52,13 @@ asking {n} {arities} e {ws} {limits} B f h =
 
 pub within-bounds : (steps depth size : ℕ) {limits : Limits} → lent steps depth size ≡ Within limits → Bounded limits
 within-bounds steps depth size {limits} e =
-    cases (ltb 1000000000 steps) (λ t. never (rw t at e))
-    (λ f. cases (ltb 1024 depth) (λ t. never (rw (f, t) at e))
-    (λ g. cases (ltb 8192 size) (λ t. never (rw (f, g, t) at e))
+    cases (ltb most-steps steps) (λ t. never (rw t at e))
+    (λ f. cases (ltb most-depth depth) (λ t. never (rw (f, t) at e))
+    (λ g. cases (ltb most-size size) (λ t. never (rw (f, g, t) at e))
     (λ h.
     let same : Within (record { steps = steps; depth = depth; size = size }) ≡ Within limits = rw (f, g, h) at e in
     let is : limits ≡ record { steps = steps; depth = depth; size = size } = cc in
-    rw is (record { steps = ltb-false 1000000000 steps f; depth = ltb-false 1024 depth g; size = ltb-false 8192 size h }))))
+    rw is (record { steps = ltb-false most-steps steps f; depth = ltb-false most-depth depth g; size = ltb-false most-size size h }))))
   where
     never : {P : Type 0} → _≡_ {A = Lent} Above (Within limits) → P
     never e = let z : _≡_ {A = ℕ} 0 1 = cc in absurd (omega arith)

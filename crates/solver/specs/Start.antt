@@ -4,6 +4,7 @@ use mathlib.Core.Path.{_≡_}
 use mathlib.Core.List.{List, [], _∷_}
 use lib.ListN.{length}
 use Rattle.room.specs.Room.{put}
+use Rattle.room.specs.Layout.{HEADER}
 use Rattle.terms.specs.Bounds.{edition-one}
 use Rattle.terms.specs.Formed.{sides, row, Good}
 use Rattle.terms.specs.Reading.{question-of}
@@ -11,8 +12,9 @@ use Rattle.terms.specs.Answers.{listed}
 use Rattle.search.specs.declared.limits.Limits.{Limits}
 use Rattle.search.specs.State.{State, state-size}
 use Rattle.search.specs.Run.{Outcome, visit, ran}
+use Rattle.search.specs.RunLimits.{most-steps, most-depth, most-size}
 use Rattle.invariants.specs.Orderly.{Orderly}
-use Rattle.turns.specs.Going.{to-come}
+use Rattle.search_laws.specs.Going.{to-come}
 use Rattle.rows.specs.Row.{Fresh}
 use Rattle.rows.specs.Header.{header-of}
 use Rattle.results.specs.declared.ran.Record.{Record}
@@ -21,7 +23,7 @@ use Rattle.search_loop.specs.Running.{Suits, Given, given, remains}
 
 -- the room with the root's row: the question's words are pending
 unfoldable pub rooted : List ℕ → List ℕ → ℕ → List ℕ
-rooted l ws unknowns = put (put l 8 ws) 0 (header-of (record { pending = length ws; pile = 0; body = length ws; bindings = 0; next = unknowns }))
+rooted l ws unknowns = put (put l HEADER ws) 0 (header-of (record { pending = length ws; pile = 0; body = length ws; bindings = 0; next = unknowns }))
 
 -- nothing is counted yet
 abbrev pub nothing : Record
@@ -44,9 +46,9 @@ whole-run unknowns arities ws limits a = record {
 
 -- the limits are within their bounds
 pub record Bounded (limits : Limits) : Type 0 where
-  pub steps : limits .steps ≤ 1000000000
-  pub depth : limits .depth ≤ 1024
-  pub size : limits .size ≤ 8192
+  pub steps : limits .steps ≤ most-steps
+  pub depth : limits .depth ≤ most-depth
+  pub size : limits .size ≤ most-size
 
 -- the root's row is written, and it is the first node that the run visits
 pub record Rooted (arities : List ℕ) (limits : Limits) (l a : List ℕ) (to : Given) : Type 0 where

@@ -9,14 +9,15 @@ ghost use Rattle.solver.specs.Start.{Asking, Bounded, Rooted, whole-run}
 
 pub mod root;
 
+use answer_record::Noted;
+use answer_record::note;
 use lent_words::check_question;
-use record::Noted;
-use record::note;
 use results::ran::Ending;
 use results::ran::Ran;
 use results::ran::Record;
+use room::layout::HEADER;
+use room::layout::SPARE_ROWS;
 use root::write_root;
-use rows::header::HEADER;
 use search::ends::End;
 use search::limits::Lent;
 use search::limits::Limits;
@@ -94,7 +95,7 @@ fn run_within(
     match check_question(unknowns, arities, equations, words) {
         Checked::Refused(refusal) => Ran::Refused(refusal),
         Checked::Fine => {
-            let needed = (limits.depth + 8) * (limits.size + 8);
+            let needed = (limits.depth + SPARE_ROWS) * (limits.size + HEADER);
             if room.len() < needed {
                 return Ran::Refused(Refusal {
                     cause: Cause::Buffer,

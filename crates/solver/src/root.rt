@@ -2,13 +2,14 @@
 ghost use mathlib.Core.Path.{_≡_};
 ghost use Prim.Native.Nat.{_+_, _≤_, _<_};
 ghost use lib.ListN.{length};
+ghost use Rattle.room.specs.Layout.{HEADER};
 ghost use Rattle.solver.specs.Start.{rooted};
-use rows::header::HEADER;
+use room::layout::HEADER;
 use rows::header::Header;
 use rows::header::seal;
 
 pub fn write_root(room: &mut [u16], words: &[u16], unknowns: usize)
-    requires { ⌜ (8 + length (now words) ≤ length (now room)) × ((length (now words) < 65536) × (unknowns < 65536)) ⌝ }
+    requires { ⌜ (HEADER + length (now words) ≤ length (now room)) × ((length (now words) < 65536) × (unknowns < 65536)) ⌝ }
     ensures { λ _. ⌜ now (room .exit) ≡ rooted (now (room .entry)) (now (words .entry)) unknowns ⌝ }
 {
     let n = words.len();

@@ -9,10 +9,11 @@ use lib.Dec.{eqb}
 use lib.ListN.{length, getD}
 use borrow.Author.Tests.{eqb-false}
 use Rattle.room.specs.Room.{seg, put, seg-seg}
+use Rattle.room.specs.Layout.{HEADER, stride, value-row, second-row}
 use Rattle.replace.specs.Fitting.{told-done, told-full}
 use Rattle.replace.specs.declared.Copied.{Copied}
 use Rattle.replace.specs.declared.Copied.the-variants.{Done, Full}
-use Rattle.terms.specs.Bounds.{edition-one, edition-one-unknowns-first}
+use Rattle.terms.specs.Bounds.{edition-one, edition-one-unknowns-first, PATH-UNKNOWNS, FIRST-UNKNOWN}
 use Rattle.terms.specs.Lists.{any, cond-or}
 use Rattle.terms.specs.Term.{Term, unknown, words, kernel, occurs, over, subst}
 use Rattle.terms.specs.Flat.{length-words}
@@ -27,14 +28,13 @@ use Rattle.terms.specs.Shape.{is-unknown, number}
 use Rattle.terms.specs.Substitution.{occurs-over}
 use Rattle.rows.specs.Row.{Makes}
 use Rattle.binding.specs.Child.{ahead}
-use Rattle.rows.specs.Flat.{holds}
-use Rattle.rows.specs.Members.{member-words, holds-members}
+use Rattle.rows.specs.HeldWords.{holds}
+use Rattle.rows.specs.MemberWords.{member-words, holds-members}
 use Rattle.room.specs.Parts.{earlier}
 use Rattle.choices.specs.declared.sides.Sides.{Sides}
 use Rattle.splits.specs.declared.different.Joined.{Joined}
 use Rattle.choices.specs.OpenParent.{Parent, Elsewhere, elsewhere-next, elsewhere-put, to-left, to-right, news}
 use Rattle.tails.specs.Due.{Due, child, child-is}
-use Rattle.splits.specs.KeptTails.{fourth}
 use Rattle.splits.specs.OccursAfter.{bound-size, occurs-subst}
 use Rattle.splits.specs.Shared.{Sharing, ShareParts, ShareMade, Shared, Twice, TwiceParts, TwiceMade, Renew, RenewParts, RenewMade, JoinedLaid, first-value, second-value, half, twice}
 use Rattle.tails.proofs.OpenSplit.{numbers}
@@ -48,19 +48,19 @@ module _ {arities l : List ℕ} {from : ℕ} {rest : Rest} {sides : Sides} {join
     shared : Shared l joined s next lent scratch p a q
     shared = M .shared l₀ p s (R .sharing) (R .x-is) (omega (arith, R .s-below, R .few))
 
-    within-below : (k n : ℕ) → k + n ≤ fourth lent scratch → seg q k n ≡ seg l k n
+    within-below : (k n : ℕ) → k + n ≤ value-row lent scratch → seg q k n ≡ seg l k n
     within-below k n h =
-        rw zero-add at (sym (seg-seg q 0 (fourth lent scratch) k n h) ∙ ap (λ (ws : List ℕ). seg ws k n) (shared .below) ∙ seg-seg l 0 (fourth lent scratch) k n h)
+        rw zero-add at (sym (seg-seg q 0 (value-row lent scratch) k n h) ∙ ap (λ (ws : List ℕ). seg ws k n) (shared .below) ∙ seg-seg l 0 (value-row lent scratch) k n h)
 
     pub share-elsewhere : Elsewhere l q from lent scratch
     share-elsewhere =
         let N = numbers (R .due .opened) in
-        record { long = shared .long; low = within-below 0 (from + (lent + 8)) (omega arith); high = within-below scratch (3 * (lent + 8)) (omega arith) }
+        record { long = shared .long; low = within-below 0 (from + stride lent) (omega arith); high = within-below scratch (3 * stride lent) (omega arith) }
 
     below-shared : Below l q to
     below-shared = let h = R .due .before in record { long = shared .long; below = within-below 0 to (omega arith) }
 
-    twice-next : twice p next s r .next ≤ 512
+    twice-next : twice p next s r .next ≤ PATH-UNKNOWNS
     unfolding twice half bound-state ahead
     twice-next = R .few
 
@@ -176,13 +176,13 @@ module _ {arities l : List ℕ} {from : ℕ} {rest : Rest} {sides : Sides} {to l
     T = member-words edition-one (to-right p)
 
     abbrev one : List ℕ
-    one = put l (fourth lent scratch) U
+    one = put l (value-row lent scratch) U
 
     pub joined-elsewhere : Elsewhere l q from lent scratch
     joined-elsewhere =
         let N = numbers (D .opened) in
-        elsewhere-next (elsewhere-put l U (fourth lent scratch) from lent scratch refl (earlier (omega arith)) (earlier (omega arith)))
-        (elsewhere-put one T (fourth lent scratch + (lent + 8)) from lent scratch (sharing .room) (earlier (omega arith)) (earlier (omega arith)))
+        elsewhere-next (elsewhere-put l U (value-row lent scratch) from lent scratch refl (earlier (omega arith)) (earlier (omega arith)))
+        (elsewhere-put one T (second-row lent scratch) from lent scratch (sharing .room) (earlier (omega arith)) (earlier (omega arith)))
 
     due-joined : Due arities q from rest sides to lent next scratch p
     due-joined = due-elsewhere joined-elsewhere D
@@ -190,7 +190,7 @@ module _ {arities l : List ℕ} {from : ℕ} {rest : Rest} {sides : Sides} {to l
     pub below-joined : Below l q to
     below-joined =
         let h = D .before in
-        below-next (below-put l U (fourth lent scratch) refl (omega arith)) (below-put one T (fourth lent scratch + (lent + 8)) (sharing .room) (omega arith))
+        below-next (below-put l U (value-row lent scratch) refl (omega arith)) (below-put one T (second-row lent scratch) (sharing .room) (omega arith))
 
     laid-parts : ShareParts q joined next lent scratch
     laid-parts =
@@ -200,26 +200,26 @@ module _ {arities l : List ℕ} {from : ℕ} {rest : Rest} {sides : Sides} {to l
     pub joined-within : (joined .u ≤ lent) × (joined .t ≤ lent) × (length q ≡ length l)
     joined-within = (sharing .u-within, sharing .t-within, below-joined .long)
 
-    module _ {x y : ℕ} (x-is : x ≡ getD l (from + 8 + sides .s) 0) (y-is : y ≡ getD l (from + 8 + sides .r) 0) where
-      x-word : x ≡ 1000 + s
+    module _ {x y : ℕ} (x-is : x ≡ getD l (from + HEADER + sides .s) 0) (y-is : y ≡ getD l (from + HEADER + sides .r) 0) where
+      x-word : x ≡ FIRST-UNKNOWN + s
       x-word = x-is ∙ s-word D (k .0)
 
-      y-word : y ≡ 1000 + r
+      y-word : y ≡ FIRST-UNKNOWN + r
       y-word = y-is ∙ r-word D (k .1)
 
-      holds-of : (z n : ℕ) → z ≡ 1000 + n → n < next → (ms : List Term) → holds z (member-words edition-one ms) ≡ any (occurs n) ms
+      holds-of : (z n : ℕ) → z ≡ FIRST-UNKNOWN + n → n < next → (ms : List Term) → holds z (member-words edition-one ms) ≡ any (occurs n) ms
       unfolding edition-one
       holds-of z n e h ms = let N = numbers (D .opened) in rw e (holds-members edition-one-unknowns-first (omega arith) ms)
 
       module _ {c : Bool}
-          (test : c ≡ (holds x (seg q (fourth lent scratch) (fourth lent scratch + joined .u - fourth lent scratch))
-          || (holds y (seg q (fourth lent scratch + (lent + 8)) (fourth lent scratch + (lent + 8) + joined .t - (fourth lent scratch + (lent + 8))))
-          || (holds x (seg q (fourth lent scratch + (lent + 8)) (fourth lent scratch + (lent + 8) + joined .t - (fourth lent scratch + (lent + 8))))
-          && holds y (seg q (fourth lent scratch) (fourth lent scratch + joined .u - fourth lent scratch)))))) where
+          (test : c ≡ (holds x (seg q (value-row lent scratch) (value-row lent scratch + joined .u - value-row lent scratch))
+          || (holds y (seg q (second-row lent scratch) (second-row lent scratch + joined .t - (second-row lent scratch)))
+          || (holds x (seg q (second-row lent scratch) (second-row lent scratch + joined .t - (second-row lent scratch)))
+          && holds y (seg q (value-row lent scratch) (value-row lent scratch + joined .u - value-row lent scratch)))))) where
         crossing-is : c ≡ crossing
         crossing-is =
-            let a : fourth lent scratch + joined .u - fourth lent scratch ≡ joined .u = omega arith in
-            let b : fourth lent scratch + (lent + 8) + joined .t - (fourth lent scratch + (lent + 8)) ≡ joined .t = omega arith in
+            let a : value-row lent scratch + joined .u - value-row lent scratch ≡ joined .u = omega arith in
+            let b : second-row lent scratch + joined .t - (second-row lent scratch) ≡ joined .t = omega arith in
             let u = u-there lent scratch q joined next laid-parts sharing in
             let t = t-there lent scratch q joined next laid-parts sharing in
             test ∙ rw (a, b, u, t, holds-of x s x-word s-less (to-left p), holds-of y r y-word r-less (to-right p), holds-of x s x-word s-less (to-right p), holds-of y r y-word r-less (to-left p))
@@ -231,11 +231,11 @@ module _ {arities l : List ℕ} {from : ℕ} {rest : Rest} {sides : Sides} {to l
           child-live : child p ≡ live (twice p next s r)
           child-live = child-different ∙ rw (sym crossing-is ∙ e)
 
-          pub different-names : 512 ≤ next → Makes edition-one l to lent (child p) Names q
+          pub different-names : PATH-UNKNOWNS ≤ next → Makes edition-one l to lent (child p) Names q
           unfolding edition-one twice half bound-state ahead
           different-names h = rw child-live (makes-names below-joined (omega arith))
 
-          module _ (h : next < 512) where
+          module _ (h : next < PATH-UNKNOWNS) where
             renewing : Renew arities q from rest sides joined x y to lent next scratch l p s r
             renewing = record { due = due-joined; sharing = sharing; few = omega arith; x-is = x-word; y-is = y-word; s-below = s-less; r-below = r-less }
 

@@ -9,10 +9,11 @@ use borrow.Author.Tests.{eqb-true}
 use Rattle.room.specs.Room.{seg, put, Within, length-put, length-seg, put-nil, put-put, seg-put-same, seg-cons, seg-zero}
 use Rattle.room.specs.Parts.{Apart, CopyParts, earlier, later, apart-part, seg-put}
 use Rattle.room.specs.Replaced.{replaced, image}
+use Rattle.room.specs.Layout.{HEADER, stride, right-row, picks-row}
 use Rattle.replace.specs.Fitting.{told-full, told-of-le, told-of-lt, further}
 use Rattle.replace.specs.declared.Copied.{Copied}
 use Rattle.replace.specs.declared.Copied.the-variants.{Done, Full}
-use Rattle.terms.specs.Bounds.{edition-one}
+use Rattle.terms.specs.Bounds.{edition-one, FIRST-UNKNOWN}
 use Rattle.terms.specs.Term.{words, kernel}
 use Rattle.terms.specs.Formed.{Equation, sides, row}
 use Rattle.terms.specs.Answers.{Named, pile-words}
@@ -60,16 +61,16 @@ module _ {l : List ℕ} {from : ℕ} {sides : Sides} {to capacity : ℕ} (P : Ta
   r-many = sides .end - sides .r
 
   abbrev s-words : List ℕ
-  s-words = seg l (from + 8 + sides .s) s-many
+  s-words = seg l (from + HEADER + sides .s) s-many
 
   abbrev r-words : List ℕ
-  r-words = seg l (from + 8 + sides .r) r-many
+  r-words = seg l (from + HEADER + sides .r) r-many
 
   length-s : length s-words ≡ s-many
-  length-s = length-seg l (from + 8 + sides .s) s-many (omega (arith, P .body-within, P .s-below, P .right-below))
+  length-s = length-seg l (from + HEADER + sides .s) s-many (omega (arith, P .body-within, P .s-below, P .right-below))
 
   length-r : length r-words ≡ r-many
-  length-r = length-seg l (from + 8 + sides .r) r-many (omega (arith, P .body-within, P .r-below))
+  length-r = length-seg l (from + HEADER + sides .r) r-many (omega (arith, P .body-within, P .r-below))
 
   length-tails : length (tails-piece l from sides) ≡ s-many + r-many
   unfolding tails-piece
@@ -87,7 +88,7 @@ module _ {l : List ℕ} {from : ℕ} {sides : Sides} {to capacity : ℕ} (P : Ta
       }
 
   module _ (h : s-many + r-many ≤ capacity) where
-    pub s-parts : CopyParts l (from + 8 + sides .s) s-many to
+    pub s-parts : CopyParts l (from + HEADER + sides .s) s-many to
     s-parts = record {
       from-within = omega (arith, P .body-within, P .s-below, P .right-below);
       to-within = omega (arith, P .to-within);
@@ -98,18 +99,18 @@ module _ {l : List ℕ} {from : ℕ} {sides : Sides} {to capacity : ℕ} (P : Ta
       long : length r ≡ length l
       long = ap length e ∙ length-put l to s-words
 
-      pub r-parts : CopyParts r (from + 8 + sides .r) r-many (to + s-many)
+      pub r-parts : CopyParts r (from + HEADER + sides .r) r-many (to + s-many)
       r-parts = record {
         from-within = rw long (omega (arith, P .body-within, P .r-below));
         to-within = rw long (omega (arith, P .to-within));
         apart = apart-part (P .apart) (omega arith) (omega (arith, P .r-below)) (omega arith) (omega arith);
       }
 
-      pub tails-written : {q : List ℕ} → q ≡ put r (to + s-many) (seg r (from + 8 + sides .r) r-many) → Wrote l to capacity (tails-piece l from sides) (Done (s-many + r-many)) q
+      pub tails-written : {q : List ℕ} → q ≡ put r (to + s-many) (seg r (from + HEADER + sides .r) r-many) → Wrote l to capacity (tails-piece l from sides) (Done (s-many + r-many)) q
       unfolding tails-piece
       tails-written f =
           let k = length-tails in
-          let same : seg r (from + 8 + sides .r) r-many ≡ r-words =
+          let same : seg r (from + HEADER + sides .r) r-many ≡ r-words =
           rw e (seg-put s-words l (apart-part (P .apart) (omega arith) (omega (arith, P .r-below)) (omega arith) (omega (arith, length-s)))) in
           record {
             out = tails-piece l from sides;
@@ -132,25 +133,25 @@ module _ {arities l : List ℕ} {from : ℕ} {rest : Rest} {sides : Sides} {to l
   S = D .opened
 
   abbrev us : ℕ
-  us = scratch + (lent + 8)
+  us = right-row lent scratch
 
   abbrev picks : ℕ
-  picks = scratch + (lent + 8) + (lent + 8)
+  picks = picks-row lent scratch
 
   -- it is due still, once something is written to its row
-  due-wrote : {piece : List ℕ} {a : Copied} {r : List ℕ} → Wrote l (to + 8) lent piece a r → Due arities r from rest sides to lent next scratch p
+  due-wrote : {piece : List ℕ} {a : Copied} {r : List ℕ} → Wrote l (to + HEADER) lent piece a r → Due arities r from rest sides to lent next scratch p
   due-wrote W = due-elsewhere (wrote-elsewhere (due-target D) W) D
 
   module _ (ds : List Equation) where
-    pub kept-full : (ms : List Named) {r : List ℕ} → Wrote l (to + 8) lent (pending-words edition-one ds) Full r
+    pub kept-full : (ms : List Named) {r : List ℕ} → Wrote l (to + HEADER) lent (pending-words edition-one ds) Full r
         → Makes edition-one l to lent (live (extended ds ms next (p .st))) Large r × Elsewhere l r from lent scratch
     unfolding edition-one extended
     kept-full ms w =
         let h : lent < length (pending-words edition-one ds) = told-full lent (pending-words edition-one ds) (sym (w .tells)) in
-        (makes-large (below-put l (w .out) (to + 8) (w .room) (omega arith)) (S .few) (omega (arith, news-size ds ms next (p .st))), wrote-elsewhere (due-target D) w)
+        (makes-large (below-put l (w .out) (to + HEADER) (w .room) (omega arith)) (S .few) (omega (arith, news-size ds ms next (p .st))), wrote-elsewhere (due-target D) w)
 
-    module _ {w : ℕ} {r : List ℕ} (W : Wrote l (to + 8) lent (pending-words edition-one ds) (Done w) r) {by m : ℕ} (by-within : Within l by m) (by-apart : Apart by m to (lent + 8)) where
-      pub keep-parts : FinishParts r rest by m to w lent 1000 next
+    module _ {w : ℕ} {r : List ℕ} (W : Wrote l (to + HEADER) lent (pending-words edition-one ds) (Done w) r) {by m : ℕ} (by-within : Within l by m) (by-apart : Apart by m to (stride lent)) where
+      pub keep-parts : FinishParts r rest by m to w lent FIRST-UNKNOWN next
       keep-parts =
           let N = numbers S in
           let long = wrote-length W in
@@ -180,29 +181,29 @@ module _ {arities l : List ℕ} {from : ℕ} {rest : Rest} {sides : Sides} {to l
           let there : Piled r by m ms = record {
             piled = rw (W .room) (seg-put (W .out) l (apart-part by-apart (omega arith) (omega arith) (omega arith) (omega (arith, W .within)))) ∙ E .piled;
           } in
-          let new : seg r (to + 8) w ≡ pending-words edition-one ds =
-          rw (← k, done-room W) (seg-put-same (pending-words edition-one ds) l (to + 8) (omega (arith, D .before, done-fits W))) in
-          (makes-before (below-put l (W .out) (to + 8) (W .room) (omega arith)) (keep-makes (D′ .opened .rested) there keep-parts ds new F (N .few)), row-elsewhere (due-target D) W F)
+          let new : seg r (to + HEADER) w ≡ pending-words edition-one ds =
+          rw (← k, done-room W) (seg-put-same (pending-words edition-one ds) l (to + HEADER) (omega (arith, D .before, done-fits W))) in
+          (makes-before (below-put l (W .out) (to + HEADER) (W .room) (omega arith)) (keep-makes (D′ .opened .rested) there keep-parts ds new F (N .few)), row-elsewhere (due-target D) W F)
 
   -- ---- the new equations, as they are: the word x at a place stands for itself
 
-  module _ (by : ℕ) (h : by < length l) (apart : Apart by 1 to (lent + 8)) where
-    pub plain-parts : MeetParts l (from + 8) scratch (sides .n) us (sides .m) picks by 1 (to + 8) lent × MeetParts l (from + 8) us (sides .m) scratch (sides .n) (picks + sides .n) by 1 (to + 8) lent
+  module _ (by : ℕ) (h : by < length l) (apart : Apart by 1 to (stride lent)) where
+    pub plain-parts : MeetParts l (from + HEADER) scratch (sides .n) us (sides .m) picks by 1 (to + HEADER) lent × MeetParts l (from + HEADER) us (sides .m) scratch (sides .n) (picks + sides .n) by 1 (to + HEADER) lent
     plain-parts =
         let N = numbers S in
-        equation-parts S by 1 (to + 8) lent (omega (arith, D .before)) (earlier (omega (arith, D .after))) (later (omega (arith, D .before)))
+        equation-parts S by 1 (to + HEADER) lent (omega (arith, D .before)) (earlier (omega (arith, D .after))) (later (omega (arith, D .before)))
         (omega arith) (apart-part apart (omega arith) (omega arith) (omega arith) (omega arith))
 
     pub plain : {x : ℕ} → x ≡ getD l by 0 → {a : Copied} {r : List ℕ}
-        → Wrote l (to + 8) lent (replaced x (seg l by 1) (equations-piece l (from + 8) scratch (sides .n) us (sides .m) picks)) a r → Wrote l (to + 8) lent (pending-words edition-one (news p)) a r
+        → Wrote l (to + HEADER) lent (replaced x (seg l by 1) (equations-piece l (from + HEADER) scratch (sides .n) us (sides .m) picks)) a r → Wrote l (to + HEADER) lent (pending-words edition-one (news p)) a r
     plain {x} e w =
         let self : seg l by 1 ≡ x ∷ [] = seg-cons l by 0 h ∙ rw (seg-zero, e) in
-        rw (self, replaced-self x (equations-piece l (from + 8) scratch (sides .n) us (sides .m) picks), equations-is S) at w
+        rw (self, replaced-self x (equations-piece l (from + HEADER) scratch (sides .n) us (sides .m) picks), equations-is S) at w
 
-  pub s-place : from + 8 + sides .s < length l
+  pub s-place : from + HEADER + sides .s < length l
   s-place = let N = numbers S in omega arith
 
-  pub s-apart : (k : ℕ) → k ≤ 1 → Apart (from + 8 + sides .s) k to (lent + 8)
+  pub s-apart : (k : ℕ) → k ≤ 1 → Apart (from + HEADER + sides .s) k to (stride lent)
   s-apart k h = let N = numbers S in earlier (omega (arith, D .after))
 
   -- ---- neither tail is an unknown
@@ -218,11 +219,11 @@ module _ {arities l : List ℕ} {from : ℕ} {rest : Rest} {sides : Sides} {to l
   unfolding settle pend extended
   neither-is kind = rw (child-is p kind, append-nil, S .next-is, append-assoc)
 
-  module _ {w : ℕ} {r : List ℕ} (W : Wrote l (to + 8) lent (pending-words edition-one (news p)) (Done w) r) where
+  module _ {w : ℕ} {r : List ℕ} (W : Wrote l (to + HEADER) lent (pending-words edition-one (news p)) (Done w) r) where
     pub written-within : w ≤ lent
     written-within = omega (arith, done-fits W, done-length W)
 
-    pub tails-parts : TailsParts r from sides (to + 8 + w) (lent - w)
+    pub tails-parts : TailsParts r from sides (to + HEADER + w) (lent - w)
     tails-parts =
         let N = numbers S in
         let long = wrote-length W in
@@ -236,8 +237,8 @@ module _ {arities l : List ℕ} {from : ℕ} {rest : Rest} {sides : Sides} {to l
           apart = earlier (omega (arith, D .after));
         }
 
-    pub last-written : {a : Copied} {q : List ℕ} → Wrote r (to + 8 + w) (lent - w) (tails-piece r from sides) a q
-        → Wrote l (to + 8) lent (pending-words edition-one (news p ++ (last ∷ []))) (further w a) q
+    pub last-written : {a : Copied} {q : List ℕ} → Wrote r (to + HEADER + w) (lent - w) (tails-piece r from sides) a q
+        → Wrote l (to + HEADER) lent (pending-words edition-one (news p ++ (last ∷ []))) (further w a) q
     unfolding tails-piece
     last-written v =
         let D′ = due-wrote W in
@@ -245,15 +246,15 @@ module _ {arities l : List ℕ} {from : ℕ} {rest : Rest} {sides : Sides} {to l
         rw (pending-append edition-one (news p) (last ∷ [])) (wrote-more W (rw e at v))
 
   module _ (kind : tails (p .t) (p .u) ≡ Neither) where
-    pub news-full : {r : List ℕ} → Wrote l (to + 8) lent (pending-words edition-one (news p)) Full r → Makes edition-one l to lent (child p) Large r × Elsewhere l r from lent scratch
+    pub news-full : {r : List ℕ} → Wrote l (to + HEADER) lent (pending-words edition-one (news p)) Full r → Makes edition-one l to lent (child p) Large r × Elsewhere l r from lent scratch
     news-full w =
         rw (neither-is kind) (kept-full (news p ++ (last ∷ [])) [] (rw (pending-append edition-one (news p) (last ∷ [])) (full-more (pending-words edition-one (last ∷ [])) w)))
 
-    pub last-full : {r : List ℕ} → Wrote l (to + 8) lent (pending-words edition-one (news p ++ (last ∷ []))) Full r → Makes edition-one l to lent (child p) Large r × Elsewhere l r from lent scratch
+    pub last-full : {r : List ℕ} → Wrote l (to + HEADER) lent (pending-words edition-one (news p ++ (last ∷ []))) Full r → Makes edition-one l to lent (child p) Large r × Elsewhere l r from lent scratch
     last-full w = rw (neither-is kind) (kept-full (news p ++ (last ∷ [])) [] w)
 
-    module _ {w : ℕ} {r : List ℕ} (W : Wrote l (to + 8) lent (pending-words edition-one (news p ++ (last ∷ []))) (Done w) r) (by : ℕ) (h : by ≤ length l) (apart : Apart by 0 to (lent + 8)) where
-      pub neither-parts : FinishParts r rest by 0 to w lent 1000 next
+    module _ {w : ℕ} {r : List ℕ} (W : Wrote l (to + HEADER) lent (pending-words edition-one (news p ++ (last ∷ []))) (Done w) r) (by : ℕ) (h : by ≤ length l) (apart : Apart by 0 to (stride lent)) where
+      pub neither-parts : FinishParts r rest by 0 to w lent FIRST-UNKNOWN next
       neither-parts = keep-parts (news p ++ (last ∷ [])) W {by = by} {m = 0} (omega arith) apart
 
       pub neither-made : {a : Made} {q : List ℕ} → Finished r to w lent (kept-piece r rest by 0) (header-of (kept-header rest w 0 next)) a q

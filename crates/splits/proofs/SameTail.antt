@@ -9,13 +9,14 @@ use lib.Dec.{eqb}
 use lib.ListN.{length, getD, set, length-append}
 use Rattle.room.specs.Room.{seg, put, length-put, put-one, put-put, put-more, seg-zero, seg-seg, seg-put-same}
 use Rattle.room.specs.Parts.{Apart, earlier, later, seg-put}
-use Rattle.terms.specs.Bounds.{edition-one}
+use Rattle.room.specs.Layout.{HEADER, stride, right-row, picks-row, value-row}
+use Rattle.terms.specs.Bounds.{edition-one, FIRST-UNKNOWN}
 use Rattle.terms.specs.Term.{Term, words, kernel, over}
 use Rattle.terms.specs.Shape.{is-unknown, number, unknown-number}
 use Rattle.search.specs.State.{State, live, pend, piled}
 use Rattle.search.specs.Children.{settle, pile-up}
 use Rattle.rows.specs.declared.parts.Rest.{Rest}
-use Rattle.rows.specs.Members.{member-words, members-append, words-over}
+use Rattle.rows.specs.MemberWords.{member-words, members-append, words-over}
 use Rattle.binding.specs.Child.{extended}
 use Rattle.terms.specs.Formed.{Equation}
 use Rattle.terms.specs.Answers.{pile-words}
@@ -36,7 +37,7 @@ use Rattle.splits.proofs.NothingBound.{kept-full, kept-made}
 use Rattle.choices.specs.declared.sides.Sides.{Sides}
 use Rattle.choices.specs.Gathered.{joining-piece, TailParts}
 use Rattle.choices.specs.OpenParent.{Parent, Opened, Elsewhere, elsewhere-next, elsewhere-put, opened-after, to-left, to-right, news}
-use Rattle.splits.specs.KeptTails.{entry-of, fourth, Entry, EntryLaid}
+use Rattle.splits.specs.KeptTails.{entry-of, Entry, EntryLaid}
 use Rattle.tails.proofs.OpenSplit.{numbers, s-stands, s-noted, r-noted, left-parts, right-parts, left-is, right-is}
 use Rattle.tails.proofs.Tailing.{unknown-word}
 
@@ -47,22 +48,22 @@ member-words-none (m ∷ ms) e = absurd (omega arith)
 
 -- the words of an entry that has a member
 entry-words : (ms : List Term) (x : Term) → is-unknown x ≡ true → 0 < length (member-words edition-one ms)
-    → pile-words edition-one (entry-of ms x) ≡ (1000 + number x) ∷ (member-words edition-one ms ++ ((1000 + number x) ∷ []))
+    → pile-words edition-one (entry-of ms x) ≡ (FIRST-UNKNOWN + number x) ∷ (member-words edition-one ms ++ ((FIRST-UNKNOWN + number x) ∷ []))
 unfolding entry-of pile-words member-words words edition-one
 entry-words [] x e h = absurd (omega arith)
 entry-words (m ∷ ms) x e h =
-    let w : words edition-one x ≡ (1000 + number x) ∷ [] = ap (words edition-one) (unknown-number x e) in
-    ap (λ (ws : List ℕ). (1000 + number x) ∷ ws) (append-nil (words edition-one (over (m ∷ ms) x)) ∙ words-over edition-one (m ∷ ms) x ∙ ap (λ (ws : List ℕ). member-words edition-one (m ∷ ms) ++ ws) w)
+    let w : words edition-one x ≡ (FIRST-UNKNOWN + number x) ∷ [] = ap (words edition-one) (unknown-number x e) in
+    ap (λ (ws : List ℕ). (FIRST-UNKNOWN + number x) ∷ ws) (append-nil (words edition-one (over (m ∷ ms) x)) ∙ words-over edition-one (m ∷ ms) x ∙ ap (λ (ws : List ℕ). member-words edition-one (m ∷ ms) ++ ws) w)
 
 module _ {arities l : List ℕ} {from : ℕ} {rest : Rest} {sides : Sides} {lent next scratch : ℕ} {p : Parent} (S : Opened arities l from rest sides lent next scratch p) where
   abbrev us : ℕ
-  us = scratch + (lent + 8)
+  us = right-row lent scratch
 
   abbrev picks : ℕ
-  picks = scratch + (lent + 8) + (lent + 8)
+  picks = picks-row lent scratch
 
   abbrev value : ℕ
-  value = scratch + (lent + 8) + (lent + 8) + (lent + 8)
+  value = value-row lent scratch
 
   abbrev T : List ℕ
   T = member-words edition-one (to-right p)
@@ -81,11 +82,11 @@ module _ {arities l : List ℕ} {from : ℕ} {rest : Rest} {sides : Sides} {lent
     opened-x : Opened arities (set l value x) from rest sides lent next scratch p
     opened-x = opened-up (x ∷ []) value (sym (put-one l value x)) (omega arith)
 
-    pub t-parts : TailParts (set l value x) (from + 8) scratch picks (sides .n) (value + 1)
+    pub t-parts : TailParts (set l value x) (from + HEADER) scratch picks (sides .n) (value + 1)
     t-parts = let N = numbers opened-x in right-parts opened-x (value + 1) (omega arith) (omega arith)
 
-    module _ {k : ℕ} {r : List ℕ} (t-told : (k ≡ length (joining-piece (set l value x) (from + 8) scratch picks (sides .n) (sides .m))) × (k ≤ getD (set l value x) (scratch + sides .n) 0))
-        (t-room : r ≡ put (set l value x) (value + 1) (joining-piece (set l value x) (from + 8) scratch picks (sides .n) (sides .m))) where
+    module _ {k : ℕ} {r : List ℕ} (t-told : (k ≡ length (joining-piece (set l value x) (from + HEADER) scratch picks (sides .n) (sides .m))) × (k ≤ getD (set l value x) (scratch + sides .n) 0))
+        (t-room : r ≡ put (set l value x) (value + 1) (joining-piece (set l value x) (from + HEADER) scratch picks (sides .n) (sides .m))) where
       pub k-within : k ≤ lent
       k-within = let N = numbers S in omega (arith, t-told .1, s-noted opened-x)
 
@@ -98,11 +99,11 @@ module _ {arities l : List ℕ} {from : ℕ} {rest : Rest} {sides : Sides} {lent
       opened-t : Opened arities r from rest sides lent next scratch p
       opened-t = opened-up (x ∷ T) value laid-t (omega arith)
 
-      pub u-parts : TailParts r (from + 8) us (picks + sides .n) (sides .m) (value + 1 + k)
+      pub u-parts : TailParts r (from + HEADER) us (picks + sides .n) (sides .m) (value + 1 + k)
       u-parts = let N = numbers opened-t in left-parts opened-t (value + 1 + k) (omega arith) (omega (arith, k-within))
 
-      module _ {j : ℕ} {q : List ℕ} (u-told : (j ≡ length (joining-piece r (from + 8) us (picks + sides .n) (sides .m) (sides .n))) × (j ≤ getD r (us + sides .m) 0))
-          (u-room : q ≡ put r (value + 1 + k) (joining-piece r (from + 8) us (picks + sides .n) (sides .m) (sides .n))) where
+      module _ {j : ℕ} {q : List ℕ} (u-told : (j ≡ length (joining-piece r (from + HEADER) us (picks + sides .n) (sides .m) (sides .n))) × (j ≤ getD r (us + sides .m) 0))
+          (u-room : q ≡ put r (value + 1 + k) (joining-piece r (from + HEADER) us (picks + sides .n) (sides .m) (sides .n))) where
         pub j-within : j ≤ lent
         j-within = let N = numbers S in omega (arith, u-told .1, r-noted opened-t)
 
@@ -149,7 +150,7 @@ module _ {arities l : List ℕ} {from : ℕ} {rest : Rest} {sides : Sides} {lent
               piled = λ g. record { piled = rw e (seg-zero (set q (value + 1 + k + j) x) value) };
             }
 
-        pub one-entry : (k + j ≡ 0 → ⊥) → x ≡ getD l (from + 8 + sides .s) 0 → Entry l from lent scratch p (k + j + 2) (set q (value + 1 + k + j) x)
+        pub one-entry : (k + j ≡ 0 → ⊥) → x ≡ getD l (from + HEADER + sides .s) 0 → Entry l from lent scratch p (k + j + 2) (set q (value + 1 + k + j) x)
         one-entry z w =
             let N = numbers S in
             let a = k-within in
@@ -159,10 +160,10 @@ module _ {arities l : List ℕ} {from : ℕ} {rest : Rest} {sides : Sides} {lent
               below = laid-below;
               within = omega arith;
               piled = λ g.
-                  let o : x ≡ 1000 + number (kernel (p .t)) = w ∙ unknown-word l (from + 8 + sides .s) (sides .right - sides .s) (kernel (p .t)) (s-stands S) g (omega arith) in
+                  let o : x ≡ FIRST-UNKNOWN + number (kernel (p .t)) = w ∙ unknown-word l (from + HEADER + sides .s) (sides .right - sides .s) (kernel (p .t)) (s-stands S) g (omega arith) in
                   let m : 0 < length (member-words edition-one (to-right p ++ to-left p)) = omega (arith, both-length) in
                   let n : seg (put l value out) value (k + j + 2) ≡ out = rw (← length-out) (seg-put-same out l value (omega (arith, length-out))) in
-                  let f : (1000 + number (kernel (p .t))) ∷ (member-words edition-one (to-right p ++ to-left p) ++ ((1000 + number (kernel (p .t))) ∷ [])) ≡ out =
+                  let f : (FIRST-UNKNOWN + number (kernel (p .t))) ∷ (member-words edition-one (to-right p ++ to-left p) ++ ((FIRST-UNKNOWN + number (kernel (p .t))) ∷ [])) ≡ out =
                   rw (← o, members-append edition-one (to-right p) (to-left p)) (simp append-assoc) in
                   let there : seg (set q (value + 1 + k + j) x) value (k + j + 2) ≡ out = rw laid-all n in
                   record { piled = there ∙ sym (entry-words (to-right p ++ to-left p) (kernel (p .t)) g m ∙ f) };
@@ -204,10 +205,10 @@ module _ {arities l : List ℕ} {from : ℕ} {rest : Rest} {sides : Sides} {to l
             (sym (seg-seg r 0 scratch 0 to (omega arith)) ∙ ap (λ (ws : List ℕ). seg ws 0 to) (the-entry .below) ∙ seg-seg l 0 scratch 0 to (omega arith));
       }
 
-  pub entry-within : fourth lent scratch + a ≤ length r
+  pub entry-within : value-row lent scratch + a ≤ length r
   entry-within = rw (the-entry .elsewhere .long) (the-entry .within)
 
-  pub entry-apart : Apart (fourth lent scratch) a to (lent + 8)
+  pub entry-apart : Apart (value-row lent scratch) a to (stride lent)
   entry-apart = later (omega (arith, D .before))
 
   same-is : tails (p .t) (p .u) ≡ Same → child p ≡ live (extended (news p) (entry-of (to-right p ++ to-left p) (kernel (p .t))) next (p .st))
@@ -215,13 +216,13 @@ module _ {arities l : List ℕ} {from : ℕ} {rest : Rest} {sides : Sides} {to l
   same-is kind = child-is p kind ∙ ap live (piled-up (kernel (p .t)) (to-right p ++ to-left p) (p .st) (news p) next (D .opened .next-is))
 
   module _ (kind : tails (p .t) (p .u) ≡ Same) where
-    pub same-full : {q : List ℕ} → Wrote r (to + 8) lent (pending-words edition-one (news p)) Full q → Makes edition-one l to lent (child p) Large q × Elsewhere l q from lent scratch
+    pub same-full : {q : List ℕ} → Wrote r (to + HEADER) lent (pending-words edition-one (news p)) Full q → Makes edition-one l to lent (child p) Large q × Elsewhere l q from lent scratch
     same-full w =
         let M = kept-full due-laid (news p) (entry-of (to-right p ++ to-left p) (kernel (p .t))) w in
         rw (same-is kind) (makes-before below-laid (M .0), elsewhere-next (the-entry .elsewhere) (M .1))
 
-    pub same-made : {w : ℕ} {q : List ℕ} → Wrote r (to + 8) lent (pending-words edition-one (news p)) (Done w) q → {b : Made} {o : List ℕ}
-        → Finished q to w lent (kept-piece q rest (fourth lent scratch) a) (header-of (kept-header rest w a next)) b o → Makes edition-one l to lent (child p) b o × Elsewhere l o from lent scratch
+    pub same-made : {w : ℕ} {q : List ℕ} → Wrote r (to + HEADER) lent (pending-words edition-one (news p)) (Done w) q → {b : Made} {o : List ℕ}
+        → Finished q to w lent (kept-piece q rest (value-row lent scratch) a) (header-of (kept-header rest w a next)) b o → Makes edition-one l to lent (child p) b o × Elsewhere l o from lent scratch
     same-made W F =
         let M = kept-made due-laid (news p) W entry-within entry-apart (the-entry .piled (same-kind (p .t) (p .u) kind)) F in
         rw (same-is kind) (makes-before below-laid (M .0), elsewhere-next (the-entry .elsewhere) (M .1))

@@ -7,7 +7,8 @@ use lib.ListN.{length, getD}
 use Rattle.room.specs.Room.{seg, put, seg-zero}
 use Rattle.room.specs.Parts.{later, apart-part}
 use Rattle.room.specs.Replaced.{replaced, replaced-nil}
-use Rattle.terms.specs.Bounds.{edition-one}
+use Rattle.room.specs.Layout.{HEADER, right-row, picks-row, value-row, second-row}
+use Rattle.terms.specs.Bounds.{edition-one, FIRST-UNKNOWN}
 use Rattle.terms.specs.Term.{Term, words}
 use Rattle.terms.specs.Formed.{row, sides}
 use Rattle.search.specs.State.{State, live, pend, size-equations, state-size}
@@ -33,30 +34,30 @@ use Rattle.splits.proofs.SameTail.{opened-up}
 
 module _ {arities l : List ℕ} {from : ℕ} {rest : Rest} {sides : Sides} {lent next scratch : ℕ} {p : Parent} (S : Opened arities l from rest sides lent next scratch p) where
   abbrev us : ℕ
-  us = scratch + (lent + 8)
+  us = right-row lent scratch
 
   abbrev picks : ℕ
-  picks = scratch + (lent + 8) + (lent + 8)
+  picks = picks-row lent scratch
 
   abbrev first : ℕ
-  first = scratch + (lent + 8) + (lent + 8) + (lent + 8)
+  first = value-row lent scratch
 
   abbrev second : ℕ
-  second = scratch + (lent + 8) + (lent + 8) + (lent + 8) + (lent + 8)
+  second = second-row lent scratch
 
-  pub u-parts : TailParts l (from + 8) us (picks + sides .n) (sides .m) first
+  pub u-parts : TailParts l (from + HEADER) us (picks + sides .n) (sides .m) first
   u-parts = let N = numbers S in left-parts S first (omega arith) (omega arith)
 
-  module _ {u : ℕ} {r : List ℕ} (u-told : (u ≡ length (joining-piece l (from + 8) us (picks + sides .n) (sides .m) (sides .n))) × (u ≤ getD l (us + sides .m) 0))
-      (u-room : r ≡ put l first (joining-piece l (from + 8) us (picks + sides .n) (sides .m) (sides .n))) where
+  module _ {u : ℕ} {r : List ℕ} (u-told : (u ≡ length (joining-piece l (from + HEADER) us (picks + sides .n) (sides .m) (sides .n))) × (u ≤ getD l (us + sides .m) 0))
+      (u-room : r ≡ put l first (joining-piece l (from + HEADER) us (picks + sides .n) (sides .m) (sides .n))) where
     opened-u : Opened arities r from rest sides lent next scratch p
-    opened-u = opened-up S (joining-piece l (from + 8) us (picks + sides .n) (sides .m) (sides .n)) first u-room (omega arith)
+    opened-u = opened-up S (joining-piece l (from + HEADER) us (picks + sides .n) (sides .m) (sides .n)) first u-room (omega arith)
 
-    pub t-parts : TailParts r (from + 8) scratch picks (sides .n) second
+    pub t-parts : TailParts r (from + HEADER) scratch picks (sides .n) second
     t-parts = let N = numbers opened-u in right-parts opened-u second (omega arith) (omega arith)
 
-    pub both-laid : {t : ℕ} {q : List ℕ} → (t ≡ length (joining-piece r (from + 8) scratch picks (sides .n) (sides .m))) × (t ≤ getD r (scratch + sides .n) 0)
-        → q ≡ put r second (joining-piece r (from + 8) scratch picks (sides .n) (sides .m)) → Sharing l lent scratch p (record { u = u; t = t }) q
+    pub both-laid : {t : ℕ} {q : List ℕ} → (t ≡ length (joining-piece r (from + HEADER) scratch picks (sides .n) (sides .m))) × (t ≤ getD r (scratch + sides .n) 0)
+        → q ≡ put r second (joining-piece r (from + HEADER) scratch picks (sides .n) (sides .m)) → Sharing l lent scratch p (record { u = u; t = t }) q
     both-laid t-told t-room =
         let N = numbers S in
         record {
@@ -74,7 +75,7 @@ unfolding ahead
 ahead-none next st e = rw e
 
 module _ {arities l : List ℕ} {between x by m to lent next : ℕ} {st : State} {name : ℕ} {value : Term} (A : Again arities l between x by m to lent next st name value) where
-  pub header-within : between + (8 + state-size st) ≤ length l
+  pub header-within : between + (HEADER + state-size st) ≤ length l
   header-within = A .fresh .holds .within
 
   module _ {h : Header} (told-header : h ≡ header-in (seg l between (between + 5 - between))) where
@@ -122,6 +123,6 @@ module _ {arities l : List ℕ} {between x by m to lent next : ℕ} {st : State}
       unfolding edition-one pending-words row sides
       again-made F =
           let e = A .x-is in
-          let new : seg l (to + 8) 0 ≡ replaced (1000 + name) (words edition-one value) (pending-words edition-one []) = seg-zero l (to + 8) ∙ sym (replaced-nil (1000 + name) (words edition-one value)) in
+          let new : seg l (to + HEADER) 0 ≡ replaced (FIRST-UNKNOWN + name) (words edition-one value) (pending-words edition-one []) = seg-zero l (to + HEADER) ∙ sym (replaced-nil (FIRST-UNKNOWN + name) (words edition-one value)) in
           rw (ahead-none next st (A .next-is)) at
           (finish-makes (A .worded) rested (A .formed) (A .stands) (A .name-small) (rw e at again-parts) [] new (rw e at F) (A .few))

@@ -10,13 +10,14 @@ use lib.ListN.{length, length-append}
 use borrow.Author.Tests.{le-ltb, leb-true, leb-false}
 use Rattle.room.specs.Room.{seg, seg-seg}
 use Rattle.room.specs.Parts.{earlier, later}
-use Rattle.terms.specs.Bounds.{edition-one}
+use Rattle.room.specs.Layout.{value-row, shared-row, between-row}
+use Rattle.terms.specs.Bounds.{edition-one, PATH-UNKNOWNS}
 use Rattle.terms.specs.Lists.{All, both, All-map, All-of-map, cases, none}
 use Rattle.terms.specs.Term.{Term, members}
 use Rattle.terms.specs.Formed.{Formed, formed-unknown}
 use Rattle.terms.specs.Formed.{Equation}
 use Rattle.terms.specs.Substitution.{formed-wider, formed-subst}
-use Rattle.terms.specs.Members.{formed-members, formed-over}
+use Rattle.terms.specs.FormedParts.{formed-members, formed-over}
 use Rattle.search.specs.State.{State, live, state-size}
 use Rattle.search.specs.Children.{bound-state, kept, others}
 use Rattle.search.specs.PileEntries.{All-others}
@@ -26,13 +27,12 @@ use Rattle.rows.specs.declared.parts.Made.the-variants.{Large, Live}
 use Rattle.rows.specs.Finished.{made}
 use Rattle.rows.specs.Row.{Makes, becomes}
 use Rattle.binding.specs.Child.{ahead}
-use Rattle.turns.specs.Picking.{joining-by}
+use Rattle.search_laws.specs.Picking.{joining-by}
 use Rattle.choices.specs.declared.sides.Sides.{Sides}
 use Rattle.choices.specs.OpenParent.{Parent, Opened, Elsewhere, elsewhere-next, own-right, to-left}
 use Rattle.tails.specs.Bound.{Bound, BoundParts, BoundMade, bound-child}
-use Rattle.splits.specs.KeptTails.{fourth}
 use Rattle.splits.specs.OccursAfter.{bound-size}
-use Rattle.splits.specs.Shared.{Again, AgainParts, AgainMade, Twice, first-value, second-value, half, twice, sixth}
+use Rattle.splits.specs.Shared.{Again, AgainParts, AgainMade, Twice, first-value, second-value, half, twice}
 use Rattle.tails.proofs.OpenSplit.{numbers}
 use Rattle.tails.proofs.Making.{Below, makes-before, makes-large, due-target, due-elsewhere}
 
@@ -49,10 +49,10 @@ formed-joining pair tail others (d ∷ ds) (both f fs) =
 
 -- ---- what is told of a live node
 
-module _ (lent : ℕ) (st : State) (few : st .next ≤ 512) {a : Made} (tells : a ≡ becomes edition-one lent (live st)) where
+module _ (lent : ℕ) (st : State) (few : st .next ≤ PATH-UNKNOWNS) {a : Made} (tells : a ≡ becomes edition-one lent (live st)) where
   told-made : a ≡ made lent (state-size st)
   unfolding becomes edition-one
-  told-made = tells ∙ rw (le-ltb 512 (st .next) few)
+  told-made = tells ∙ rw (le-ltb PATH-UNKNOWNS (st .next) few)
 
   pub live-fits : a ≡ Live → state-size st ≤ lent
   unfolding made
@@ -75,9 +75,9 @@ module _ {arities l : List ℕ} {from : ℕ} {rest : Rest} {sides : Sides} {x u 
   O = D .due .opened
 
   abbrev between : ℕ
-  between = scratch + (lent + 8) + (lent + 8) + (lent + 8) + (lent + 8) + (lent + 8) + (lent + 8)
+  between = between-row lent scratch
 
-  first-bound : Bound arities l from rest sides x (fourth lent scratch) u between lent (next + 1) scratch p s (first-value p next)
+  first-bound : Bound arities l from rest sides x (value-row lent scratch) u between lent (next + 1) scratch p s (first-value p next)
   first-bound =
       let N = numbers O in
       record {
@@ -92,14 +92,14 @@ module _ {arities l : List ℕ} {from : ℕ} {rest : Rest} {sides : Sides} {x u 
         by-apart = earlier (omega (arith, D .u-within));
       }
 
-  pub first-parts : BoundParts arities l from rest sides x (fourth lent scratch) u between lent (next + 1) scratch
+  pub first-parts : BoundParts arities l from rest sides x (value-row lent scratch) u between lent (next + 1) scratch
   first-parts = record { p = p; name = s; value = first-value p next; bound = first-bound }
 
-  half-next : half p next s .next ≤ 512
+  half-next : half p next s .next ≤ PATH-UNKNOWNS
   unfolding half bound-state ahead
   half-next = D .few
 
-  module _ {a : Made} {q : List ℕ} (M : BoundMade arities l from rest sides x (fourth lent scratch) u between lent (next + 1) scratch a q) where
+  module _ {a : Made} {q : List ℕ} (M : BoundMade arities l from rest sides x (value-row lent scratch) u between lent (next + 1) scratch a q) where
     half-made : Makes edition-one l between lent (live (half p next s)) a q
     unfolding half bound-child
     half-made = M .makes p s (first-value p next) first-bound
@@ -116,7 +116,7 @@ module _ {arities l : List ℕ} {from : ℕ} {rest : Rest} {sides : Sides} {x u 
           below = rw zero-add at (sym (seg-seg q 0 between 0 to (omega arith)) ∙ ap (λ (ws : List ℕ). seg ws 0 to) (B .below) ∙ seg-seg l 0 between 0 to (omega arith));
         }
 
-    twice-next : twice p next s r .next ≤ 512
+    twice-next : twice p next s r .next ≤ PATH-UNKNOWNS
     unfolding twice half bound-state ahead
     twice-next = D .few
 
@@ -135,7 +135,7 @@ module _ {arities l : List ℕ} {from : ℕ} {rest : Rest} {sides : Sides} {x u 
     unfolding edition-one
     few-unknowns = omega (arith, D .few)
 
-    pub second-again : a ≡ Live → Again arities q between y (sixth lent scratch) m to lent (next + 1) (half p next s) r (second-value p next s)
+    pub second-again : a ≡ Live → Again arities q between y (shared-row lent scratch) m to lent (next + 1) (half p next s) r (second-value p next s)
     unfolding half bound-state ahead kept
     second-again e =
         let N = numbers O in
@@ -154,19 +154,19 @@ module _ {arities l : List ℕ} {from : ℕ} {rest : Rest} {sides : Sides} {x u 
           x-is = D .y-is;
           name-small = omega (arith, D .r-below, D .few);
           stands = record {
-            stands = rw zero-add at (sym (seg-seg q 0 between (sixth lent scratch) m (omega (arith, D .m-within))) ∙ ap (λ (ws : List ℕ). seg ws (sixth lent scratch) m) (B .below) ∙ seg-seg l 0 between (sixth lent scratch) m (omega (arith, D .m-within))) ∙ D .second .stands;
+            stands = rw zero-add at (sym (seg-seg q 0 between (shared-row lent scratch) m (omega (arith, D .m-within))) ∙ ap (λ (ws : List ℕ). seg ws (shared-row lent scratch) m) (B .below) ∙ seg-seg l 0 between (shared-row lent scratch) m (omega (arith, D .m-within))) ∙ D .second .stands;
           };
           below = omega (arith, D .due .before);
           by-within = rw long (omega (arith, D .m-within));
           by-apart = later (omega (arith, D .due .before));
         }
 
-    pub second-parts : a ≡ Live → AgainParts arities q between y (sixth lent scratch) m to lent (next + 1)
+    pub second-parts : a ≡ Live → AgainParts arities q between y (shared-row lent scratch) m to lent (next + 1)
     second-parts e = record { st = half p next s; name = r; value = second-value p next s; again = second-again e }
 
-    pub twice-made : a ≡ Live → {b : Made} {o : List ℕ} → AgainMade arities q between y (sixth lent scratch) m to lent (next + 1) b o → Makes edition-one l to lent (live (twice p next s r)) b o
+    pub twice-made : a ≡ Live → {b : Made} {o : List ℕ} → AgainMade arities q between y (shared-row lent scratch) m to lent (next + 1) b o → Makes edition-one l to lent (live (twice p next s r)) b o
     unfolding twice
     twice-made e A = makes-before half-below (A .makes (half p next s) r (second-value p next s) (second-again e))
 
-    pub twice-kept : {b : Made} {o : List ℕ} → AgainMade arities q between y (sixth lent scratch) m to lent (next + 1) b o → Elsewhere l o from lent scratch
+    pub twice-kept : {b : Made} {o : List ℕ} → AgainMade arities q between y (shared-row lent scratch) m to lent (next + 1) b o → Elsewhere l o from lent scratch
     twice-kept A = elsewhere-next (M .kept) (A .kept from scratch (due-target (due-elsewhere (M .kept) (D .due))))

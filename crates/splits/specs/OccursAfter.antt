@@ -8,7 +8,7 @@ use lib.Dec.{eqb}
 use lib.ListN.{length, length-append}
 use borrow.Author.Tests.{eqb-true, ne-eqb}
 use Rattle.room.specs.Replaced.{replaced, length-le-replaced}
-use Rattle.terms.specs.Bounds.{edition-one, edition-one-unknowns-first}
+use Rattle.terms.specs.Bounds.{edition-one, edition-one-unknowns-first, FIRST-UNKNOWN}
 use Rattle.terms.specs.Lists.{cases}
 use Rattle.terms.specs.Term.{Term, Terms, unknown, empty, with, functor, none, more, words, size, occurs, occurs*, subst, subst*}
 use Rattle.terms.specs.Answers.{Named, binding-words, pile-words}
@@ -53,12 +53,12 @@ parted x [] = refl
 parted x (n ∷ ns) =
     cases (eqb (n .name) x) (λ t. rw t (omega (arith, parted x ns))) (λ f. rw f (omega (arith, parted x ns)))
 
-module _ (x : ℕ) (h : x < 1000) (t : Term) (st : State) where
+module _ (x : ℕ) (h : x < FIRST-UNKNOWN) (t : Term) (st : State) where
   abbrev f : List ℕ → List ℕ
-  f ws = replaced (1000 + x) (words edition-one t) ws
+  f ws = replaced (FIRST-UNKNOWN + x) (words edition-one t) ws
 
   grows : (ws : List ℕ) → length ws ≤ length (f ws)
-  grows ws = length-le-replaced (1000 + x) (words edition-one t) ws (omega (arith, length-words edition-one t, size-positive t))
+  grows ws = length-le-replaced (FIRST-UNKNOWN + x) (words edition-one t) ws (omega (arith, length-words edition-one t, size-positive t))
 
   -- a bound state is as large as it was, and as its new binding
   pub bound-size : (state-size st ≤ state-size (bound-state x t st)) × (size t ≤ state-size (bound-state x t st))

@@ -5,16 +5,18 @@ use mathlib.Core.List.{List}
 use lib.ListN.{length}
 use Rattle.room.specs.Room.{seg, put, Within}
 use Rattle.room.specs.Parts.{Apart}
-use Rattle.terms.specs.Bounds.{edition-one}
+use Rattle.room.specs.Layout.{HEADER, stride, value-row, second-row, shared-row}
+use Rattle.terms.specs.Bounds.{edition-one, PATH-UNKNOWNS, FIRST-UNKNOWN}
 use Rattle.terms.specs.Kind.{Worded}
 use Rattle.terms.specs.Lists.{All}
 use Rattle.terms.specs.Term.{Term, unknown, words, subst, over}
 use Rattle.terms.specs.Formed.{Formed}
 use Rattle.search.specs.State.{State, live, state-size}
 use Rattle.search.specs.Children.{bound-state}
+use Rattle.search.specs.RunLimits.{most-size}
 use Rattle.rows.specs.declared.parts.Rest.{Rest}
 use Rattle.rows.specs.declared.parts.Made.{Made}
-use Rattle.rows.specs.Members.{member-words}
+use Rattle.rows.specs.MemberWords.{member-words}
 use Rattle.rows.specs.Row.{Fresh, Makes}
 use Rattle.binding.specs.Child.{Stands, ahead}
 use Rattle.replace.specs.Fitting.{told}
@@ -25,12 +27,11 @@ use Rattle.splits.specs.declared.different.Joined.{Joined}
 use Rattle.choices.specs.OpenParent.{Parent, Opened, Elsewhere, to-left, to-right, news}
 use Rattle.tails.specs.Due.{Due}
 use Rattle.tails.specs.Bound.{Target}
-use Rattle.splits.specs.KeptTails.{fourth}
 
 -- ---- U and T
 
 pub record Sharing (l : List ℕ) (lent scratch : ℕ) (p : Parent) (a : Joined) (r : List ℕ) : Type 0 where
-  pub room : r ≡ put (put l (fourth lent scratch) (member-words edition-one (to-left p))) (fourth lent scratch + (lent + 8)) (member-words edition-one (to-right p))
+  pub room : r ≡ put (put l (value-row lent scratch) (member-words edition-one (to-left p))) (second-row lent scratch) (member-words edition-one (to-right p))
   pub u-is : a .u ≡ length (member-words edition-one (to-left p))
   pub t-is : a .t ≡ length (member-words edition-one (to-right p))
   pub u-within : a .u ≤ lent
@@ -47,16 +48,16 @@ pub record Again (arities l : List ℕ) (between x by m to lent next : ℕ) (st 
   pub worded : Worded edition-one arities next
   pub formed : All (λ n. Formed arities next (n .value)) (st .pile)
   pub next-is : next ≡ st .next
-  pub few : next ≤ 512
-  pub lent-small : lent ≤ 8192
+  pub few : next ≤ PATH-UNKNOWNS
+  pub lent-small : lent ≤ most-size
   pub small : length l < 2 ^ 32
   pub bindings-small : length (st .bindings) < 65535
-  pub x-is : x ≡ 1000 + name
-  pub name-small : name < 1000
+  pub x-is : x ≡ FIRST-UNKNOWN + name
+  pub name-small : name < FIRST-UNKNOWN
   pub stands : Stands l by m value
-  pub below : to + (lent + 8) ≤ between
+  pub below : to + stride lent ≤ between
   pub by-within : Within l by m
-  pub by-apart : Apart by m to (lent + 8)
+  pub by-apart : Apart by m to (stride lent)
 
 pub record AgainParts (arities l : List ℕ) (between x by m to lent next : ℕ) : Type 0 where
   pub st : State
@@ -80,23 +81,20 @@ unfoldable pub second-value : Parent → (next s : ℕ) → Term
 second-value p next s = subst s (first-value p next) (over (to-right p) (unknown next))
 
 pub record ShareParts (l : List ℕ) (joined : Joined) (next lent scratch : ℕ) : Type 0 where
-  pub space : scratch + 7 * (lent + 8) ≤ length l
+  pub space : scratch + 7 * stride lent ≤ length l
   pub u-within : joined .u ≤ lent
   pub t-within : joined .t ≤ lent
-  pub few : next ≤ 512
-
-abbrev pub sixth : ℕ → ℕ → ℕ
-sixth lent scratch = fourth lent scratch + (lent + 8) + (lent + 8)
+  pub few : next ≤ PATH-UNKNOWNS
 
 pub record Shared (l : List ℕ) (joined : Joined) (s next lent scratch : ℕ) (p : Parent) (a : Copied) (r : List ℕ) : Type 0 where
   pub long : length r ≡ length l
-  pub below : seg r 0 (fourth lent scratch) ≡ seg l 0 (fourth lent scratch)
-  pub first : Stands r (fourth lent scratch) (joined .u + 1) (first-value p next)
+  pub below : seg r 0 (value-row lent scratch) ≡ seg l 0 (value-row lent scratch)
+  pub first : Stands r (value-row lent scratch) (joined .u + 1) (first-value p next)
   pub tells : a ≡ told lent (words edition-one (second-value p next s))
-  pub second : (j : ℕ) → a ≡ Done j → Stands r (sixth lent scratch) j (second-value p next s)
+  pub second : (j : ℕ) → a ≡ Done j → Stands r (shared-row lent scratch) j (second-value p next s)
 
 pub record ShareMade (l : List ℕ) (joined : Joined) (x next lent scratch : ℕ) (a : Copied) (r : List ℕ) : Type 0 where
-  pub shared : (l₀ : List ℕ) (p : Parent) (s : ℕ) → Sharing l₀ lent scratch p joined l → x ≡ 1000 + s → s < 1000 → Shared l joined s next lent scratch p a r
+  pub shared : (l₀ : List ℕ) (p : Parent) (s : ℕ) → Sharing l₀ lent scratch p joined l → x ≡ FIRST-UNKNOWN + s → s < FIRST-UNKNOWN → Shared l joined s next lent scratch p a r
 
 -- ---- both bindings
 
@@ -109,13 +107,13 @@ twice p next s r = bound-state r (second-value p next s) (half p next s)
 
 pub record Twice (arities l : List ℕ) (from : ℕ) (rest : Rest) (sides : Sides) (x u y m to lent next scratch : ℕ) (p : Parent) (s r : ℕ) : Type 0 where
   pub due : Due arities l from rest sides to lent next scratch p
-  pub first : Stands l (fourth lent scratch) u (first-value p next)
-  pub second : Stands l (sixth lent scratch) m (second-value p next s)
-  pub u-within : u ≤ lent + 8
+  pub first : Stands l (value-row lent scratch) u (first-value p next)
+  pub second : Stands l (shared-row lent scratch) m (second-value p next s)
+  pub u-within : u ≤ lent + HEADER
   pub m-within : m ≤ lent
-  pub few : next + 1 ≤ 512
-  pub x-is : x ≡ 1000 + s
-  pub y-is : y ≡ 1000 + r
+  pub few : next + 1 ≤ PATH-UNKNOWNS
+  pub x-is : x ≡ FIRST-UNKNOWN + s
+  pub y-is : y ≡ FIRST-UNKNOWN + r
   pub s-below : s < next
   pub r-below : r < next
 
@@ -133,9 +131,9 @@ pub record TwiceMade (arities l : List ℕ) (from : ℕ) (rest : Rest) (sides : 
 pub record Renew (arities l : List ℕ) (from : ℕ) (rest : Rest) (sides : Sides) (joined : Joined) (x y to lent next scratch : ℕ) (l₀ : List ℕ) (p : Parent) (s r : ℕ) : Type 0 where
   pub due : Due arities l from rest sides to lent next scratch p
   pub sharing : Sharing l₀ lent scratch p joined l
-  pub few : next + 1 ≤ 512
-  pub x-is : x ≡ 1000 + s
-  pub y-is : y ≡ 1000 + r
+  pub few : next + 1 ≤ PATH-UNKNOWNS
+  pub x-is : x ≡ FIRST-UNKNOWN + s
+  pub y-is : y ≡ FIRST-UNKNOWN + r
   pub s-below : s < next
   pub r-below : r < next
 

@@ -8,7 +8,7 @@ use binding::keep::keep;
 use choices::equations::equations;
 use choices::sides::Sides;
 use replace::Copied;
-use rows::header::HEADER;
+use room::layout::HEADER;
 use rows::parts::Rest;
 use rows::parts::Sized;
 use tails::joined_members::tail_members;

@@ -7,6 +7,7 @@ use lib.ListN.{length}
 use borrow.Author.Tests.{le-ltb, lt-ltb}
 use Rattle.room.specs.Room.{seg, put, length-put}
 use Rattle.room.specs.Parts.{earlier, later, apart-part, seg-put}
+use Rattle.room.specs.Layout.{HEADER, stride}
 use Rattle.replace.specs.declared.Copied.{Copied}
 use Rattle.terms.specs.Bounds.{Bounds, edition-one}
 use Rattle.search.specs.declared.steps.Tails.{Tails}
@@ -77,20 +78,20 @@ not-large e f = let z : _≡_ {A = ℕ} 0 1 = cc in absurd (omega arith)
 
 module _ {l₀ : List ℕ} {from lent scratch to : ℕ} (T : Target l₀ from lent scratch to) where
   -- what is put into the child's row changes nothing elsewhere
-  put-elsewhere : (l out : List ℕ) (i : ℕ) {r : List ℕ} → r ≡ put l i out → to ≤ i → i + length out ≤ to + (lent + 8) → Elsewhere l r from lent scratch
+  put-elsewhere : (l out : List ℕ) (i : ℕ) {r : List ℕ} → r ≡ put l i out → to ≤ i → i + length out ≤ to + stride lent → Elsewhere l r from lent scratch
   put-elsewhere l out i e h k =
       elsewhere-put l out i from lent scratch e (apart-part (T .low-apart) (omega arith) (omega arith) h k) (apart-part (T .high-apart) (omega arith) (omega arith) h k)
 
-  pub wrote-elsewhere : {l piece : List ℕ} {a : Copied} {r : List ℕ} → Wrote l (to + 8) lent piece a r → Elsewhere l r from lent scratch
-  wrote-elsewhere {l} W = put-elsewhere l (W .out) (to + 8) (W .room) (omega arith) (omega (arith, W .within))
+  pub wrote-elsewhere : {l piece : List ℕ} {a : Copied} {r : List ℕ} → Wrote l (to + HEADER) lent piece a r → Elsewhere l r from lent scratch
+  wrote-elsewhere {l} W = put-elsewhere l (W .out) (to + HEADER) (W .room) (omega arith) (omega (arith, W .within))
 
   pub finished-elsewhere : {l : List ℕ} {written : ℕ} {piece header : List ℕ} {a : Made} {r : List ℕ} → Finished l to written lent piece header a r → Elsewhere l r from lent scratch
   finished-elsewhere {l} {written} F =
-      elsewhere-next (put-elsewhere l (F .out) (to + 8 + written) refl (omega arith) (omega (arith, F .within)))
-      (put-elsewhere (put l (to + 8 + written) (F .out)) (F .top) to (F .room) (omega arith) (omega (arith, F .top-within)))
+      elsewhere-next (put-elsewhere l (F .out) (to + HEADER + written) refl (omega arith) (omega (arith, F .within)))
+      (put-elsewhere (put l (to + HEADER + written) (F .out)) (F .top) to (F .room) (omega arith) (omega (arith, F .top-within)))
 
   -- the whole row: the new equations, and then the rest
-  pub row-elsewhere : {l piece : List ℕ} {a : Copied} {r : List ℕ} → Wrote l (to + 8) lent piece a r
+  pub row-elsewhere : {l piece : List ℕ} {a : Copied} {r : List ℕ} → Wrote l (to + HEADER) lent piece a r
       → {written : ℕ} {rest header : List ℕ} {b : Made} {q : List ℕ} → Finished r to written lent rest header b q → Elsewhere l q from lent scratch
   row-elsewhere W F = elsewhere-next (wrote-elsewhere W) (finished-elsewhere F)
 

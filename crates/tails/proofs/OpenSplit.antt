@@ -8,17 +8,19 @@ use lib.ListN.{length, take, drop, getD, length-append}
 use lib.Seq.{take-at, drop-at}
 use Rattle.room.specs.Room.{seg, Within, take-seg, drop-seg}
 use Rattle.room.specs.Parts.{Apart, earlier, apart-part}
-use Rattle.terms.specs.Bounds.{edition-one}
+use Rattle.room.specs.Layout.{HEADER, stride, right-row, picks-row}
+use Rattle.terms.specs.Bounds.{edition-one, PATH-UNKNOWNS}
 use Rattle.terms.specs.Term.{words, size, members, kernel}
 use Rattle.terms.specs.Shape.{is-unknown}
 use Rattle.terms.specs.Flat.{length-words}
+use Rattle.search.specs.RunLimits.{most-size}
 use Rattle.rows.specs.declared.parts.Rest.{Rest}
 use Rattle.rows.specs.Stripped.{kernel-place}
-use Rattle.rows.specs.Members.{member-words, words-members, length-members}
+use Rattle.rows.specs.MemberWords.{member-words, words-members, length-members}
 use Rattle.rows.specs.States.{pending-append}
-use Rattle.turns.specs.Picking.{equations-by}
+use Rattle.search_laws.specs.Picking.{equations-by}
 use Rattle.choices.specs.declared.sides.Sides.{Sides}
-use Rattle.choices.specs.Places.{places}
+use Rattle.choices.specs.MemberPlaces.{places}
 use Rattle.choices.specs.Gathered.{joining-piece, meeting-piece, equations-piece, Noted, MeetParts, TailParts}
 use Rattle.choices.specs.GatheredPicks.{At, at-of, at-last, length-places, rise, joining-is, meeting-is}
 use Rattle.choices.specs.OpenParent.{Parent, Opened, own-left, own-right, to-left, to-right, news, few-members}
@@ -33,9 +35,9 @@ seg-back l us vs at {n} k e f h = sym (drop-seg l at n k h) ∙ ap (drop k) e �
 
 -- the numbers, for `omega`
 pub record Numbers (l : List ℕ) (from : ℕ) (rest : Rest) (sides : Sides) (lent next scratch : ℕ) : Type 0 where
-  pub row : from + (lent + 8) ≤ scratch
-  pub space : scratch + 7 * (lent + 8) ≤ length l
-  pub lent-small : lent ≤ 8192
+  pub row : from + stride lent ≤ scratch
+  pub space : scratch + 7 * stride lent ≤ length l
+  pub lent-small : lent ≤ most-size
   pub small : length l < 2 ^ 32
   pub n-below : sides .n < sides .right
   pub m-below : sides .n + sides .m < sides .end
@@ -44,20 +46,20 @@ pub record Numbers (l : List ℕ) (from : ℕ) (rest : Rest) (sides : Sides) (le
   pub s-below : sides .s < sides .right
   pub r-from : sides .right ≤ sides .r
   pub r-below : sides .r < sides .end
-  pub few : next ≤ 512
-  pub rest-at : rest .at ≡ from + 8 + sides .end
+  pub few : next ≤ PATH-UNKNOWNS
+  pub rest-at : rest .at ≡ from + HEADER + sides .end
   pub fits : sides .end + (rest .pending + rest .pile + rest .bound) ≤ lent
   pub bindings-small : rest .bindings < 65534
 
 module _ {arities l : List ℕ} {from : ℕ} {rest : Rest} {sides : Sides} {lent next scratch : ℕ} {p : Parent} (S : Opened arities l from rest sides lent next scratch p) where
   abbrev pub us : ℕ
-  us = scratch + (lent + 8)
+  us = right-row lent scratch
 
   abbrev pub picks : ℕ
-  picks = scratch + (lent + 8) + (lent + 8)
+  picks = picks-row lent scratch
 
   abbrev body : ℕ
-  body = from + 8
+  body = from + HEADER
 
   -- ---- where the sides stand
 
@@ -103,16 +105,16 @@ module _ {arities l : List ℕ} {from : ℕ} {rest : Rest} {sides : Sides} {lent
   length-u =
       omega (arith, length-members edition-one (p .u), length-words edition-one (kernel (p .u)), length-words edition-one (p .u), ap length (words-members edition-one (p .u)), length-append (member-words edition-one (members (p .u))) (words edition-one (kernel (p .u))))
 
-  pub s-stands : seg l (from + 8 + sides .s) (sides .right - sides .s) ≡ words edition-one (kernel (p .t))
+  pub s-stands : seg l (from + HEADER + sides .s) (sides .right - sides .s) ≡ words edition-one (kernel (p .t))
   s-stands =
-      let e : body + 0 + kernel-place (p .t) ≡ from + 8 + sides .s = omega (arith, S .s-is) in
+      let e : body + 0 + kernel-place (p .t) ≡ from + HEADER + sides .s = omega (arith, S .s-is) in
       let f : size (p .t) - kernel-place (p .t) ≡ sides .right - sides .s = omega (arith, S .s-is, S .right-is) in
       rw (e, f) at
       (seg-back l (member-words edition-one (members (p .t))) (words edition-one (kernel (p .t))) (body + 0) (kernel-place (p .t)) (t-stands ∙ words-members edition-one (p .t)) (length-members edition-one (p .t)) (omega (arith, length-t)))
 
-  pub r-stands : seg l (from + 8 + sides .r) (sides .end - sides .r) ≡ words edition-one (kernel (p .u))
+  pub r-stands : seg l (from + HEADER + sides .r) (sides .end - sides .r) ≡ words edition-one (kernel (p .u))
   r-stands =
-      let e : body + size (p .t) + kernel-place (p .u) ≡ from + 8 + sides .r = omega (arith, S .r-is) in
+      let e : body + size (p .t) + kernel-place (p .u) ≡ from + HEADER + sides .r = omega (arith, S .r-is) in
       let f : size (p .u) - kernel-place (p .u) ≡ sides .end - sides .r = omega (arith, S .r-is, S .end-is) in
       rw (e, f) at
       (seg-back l (member-words edition-one (members (p .u))) (words edition-one (kernel (p .u))) (body + size (p .t)) (kernel-place (p .u)) (u-stands ∙ words-members edition-one (p .u)) (length-members edition-one (p .u)) (omega (arith, length-u)))
@@ -177,12 +179,12 @@ module _ {arities l : List ℕ} {from : ℕ} {rest : Rest} {sides : Sides} {lent
       }
 
   -- the equations are written to a place apart from the parent's row and the first rows of scratch
-  module _ (by m to capacity : ℕ) (to-within : Within l to capacity) (low : Apart 0 (from + (lent + 8)) to capacity) (high : Apart scratch (3 * (lent + 8)) to capacity)
+  module _ (by m to capacity : ℕ) (to-within : Within l to capacity) (low : Apart 0 (from + stride lent) to capacity) (high : Apart scratch (3 * stride lent) to capacity)
       (by-within : Within l by m) (by-apart : Apart by m to capacity) where
-    pub equation-parts : MeetParts l (from + 8) scratch (sides .n) us (sides .m) picks by m to capacity × MeetParts l (from + 8) us (sides .m) scratch (sides .n) (picks + sides .n) by m to capacity
+    pub equation-parts : MeetParts l (from + HEADER) scratch (sides .n) us (sides .m) picks by m to capacity × MeetParts l (from + HEADER) us (sides .m) scratch (sides .n) (picks + sides .n) by m to capacity
     equation-parts =
         let N = numbers in
-        let body-apart : Apart (from + 8) (sides .end) to capacity = apart-part low (omega arith) (omega arith) (omega arith) (omega arith) in
+        let body-apart : Apart (from + HEADER) (sides .end) to capacity = apart-part low (omega arith) (omega arith) (omega arith) (omega arith) in
         let ts : Apart scratch (sides .n + 1) to capacity = apart-part high (omega arith) (omega arith) (omega arith) (omega arith) in
         let ns : Apart us (sides .m + 1) to capacity = apart-part high (omega arith) (omega arith) (omega arith) (omega arith) in (
           record {
@@ -216,8 +218,8 @@ module _ {arities l : List ℕ} {from : ℕ} {rest : Rest} {sides : Sides} {lent
         )
 
   -- members that join a tail are written to a later row of scratch
-  module _ (to : ℕ) (from-there : scratch + 3 * (lent + 8) ≤ to) (to-within : Within l to lent) where
-    pub right-parts : TailParts l (from + 8) scratch picks (sides .n) to
+  module _ (to : ℕ) (from-there : scratch + 3 * stride lent ≤ to) (to-within : Within l to lent) where
+    pub right-parts : TailParts l (from + HEADER) scratch picks (sides .n) to
     right-parts =
         let N = numbers in
         record {
@@ -231,7 +233,7 @@ module _ {arities l : List ℕ} {from : ℕ} {rest : Rest} {sides : Sides} {lent
           picks-apart = earlier (omega arith);
         }
 
-    pub left-parts : TailParts l (from + 8) us (picks + sides .n) (sides .m) to
+    pub left-parts : TailParts l (from + HEADER) us (picks + sides .n) (sides .m) to
     left-parts =
         let N = numbers in
         record {
@@ -247,22 +249,22 @@ module _ {arities l : List ℕ} {from : ℕ} {rest : Rest} {sides : Sides} {lent
 
   -- ---- what is gathered
 
-  pub right-is : joining-piece l (from + 8) scratch picks (sides .n) (sides .m) ≡ member-words edition-one (to-right p)
+  pub right-is : joining-piece l (from + HEADER) scratch picks (sides .n) (sides .m) ≡ member-words edition-one (to-right p)
   unfolding joining-piece to-right
   right-is =
       rw (S .n-is, S .m-is)
       (joining-is edition-one l body own-left (is-unknown (kernel (p .u))) (members (p .u)) scratch picks (p .t) 0 0 (p .ds) t-stands t-places t-picks (omega (arith, S .ds-many, S .n-is)))
 
-  pub left-is : joining-piece l (from + 8) us (picks + sides .n) (sides .m) (sides .n) ≡ member-words edition-one (to-left p)
+  pub left-is : joining-piece l (from + HEADER) us (picks + sides .n) (sides .m) (sides .n) ≡ member-words edition-one (to-left p)
   unfolding joining-piece to-left
   left-is =
       let a : us + 0 ≡ us = omega arith in
       let b : picks + sides .n + 0 ≡ picks + sides .n = omega arith in
       let J = joining-is edition-one l body own-right (is-unknown (kernel (p .t))) (members (p .t)) us (picks + sides .n) (p .u) (size (p .t)) 0 (p .es) u-stands (rw a u-places) (rw b u-picks) (omega (arith, S .es-many, S .m-is)) in
-      let f : (n m : ℕ) → n ≡ length (members (p .t)) → m ≡ length (members (p .u)) → joining-piece l (from + 8) us (picks + sides .n) m n ≡ member-words edition-one (to-left p) = λ n m e g. rw (e, g) J in
+      let f : (n m : ℕ) → n ≡ length (members (p .t)) → m ≡ length (members (p .u)) → joining-piece l (from + HEADER) us (picks + sides .n) m n ≡ member-words edition-one (to-left p) = λ n m e g. rw (e, g) J in
       f (sides .n) (sides .m) (S .n-is) (S .m-is)
 
-  pub equations-is : equations-piece l (from + 8) scratch (sides .n) us (sides .m) picks ≡ pending-words edition-one (news p)
+  pub equations-is : equations-piece l (from + HEADER) scratch (sides .n) us (sides .m) picks ≡ pending-words edition-one (news p)
   unfolding equations-piece meeting-piece news own-left own-right
   equations-is =
       let a : us + 0 ≡ us = omega arith in
@@ -273,7 +275,7 @@ module _ {arities l : List ℕ} {from : ℕ} {rest : Rest} {sides : Sides} {lent
       let R = meeting-is edition-one l body own-right (is-unknown (kernel (p .t))) (members (p .t)) us (picks + sides .n) true (p .t) 0 scratch refl t-stands (rw e at t-places) (λ own other. refl)
       (p .u) (size (p .t)) 0 (p .es) u-stands (rw a u-places) (rw b u-picks) (omega (arith, S .es-many, S .m-is)) in
       let f : (n m : ℕ) → n ≡ length (members (p .t)) → m ≡ length (members (p .u))
-      → meeting-piece l (from + 8) scratch picks false n us m ++ meeting-piece l (from + 8) us (picks + sides .n) true m scratch n
+      → meeting-piece l (from + HEADER) scratch picks false n us m ++ meeting-piece l (from + HEADER) us (picks + sides .n) true m scratch n
       ≡ pending-words edition-one (equations-by own-left (is-unknown (kernel (p .u))) (members (p .u)) (members (p .t)) (p .ds)) ++ pending-words edition-one (equations-by own-right (is-unknown (kernel (p .t))) (members (p .t)) (members (p .u)) (p .es)) =
       λ n m g h. rw (g, h, L, R) in
       f (sides .n) (sides .m) (S .n-is) (S .m-is) ∙ sym (pending-append edition-one _ _)

@@ -8,10 +8,11 @@ use lib.Dec.{eqb}
 use lib.ListN.{length, getD}
 use Rattle.room.specs.Room.{seg, put, seg-put-same, getD-seg}
 use Rattle.room.specs.Parts.{earlier, later}
-use Rattle.terms.specs.Bounds.{edition-one}
+use Rattle.room.specs.Layout.{HEADER, right-row, picks-row, value-row}
+use Rattle.terms.specs.Bounds.{edition-one, FIRST-UNKNOWN}
 use Rattle.terms.specs.Term.{Term, words, members, kernel, over}
 use Rattle.terms.specs.Shape.{is-unknown, number, unknown-number}
-use Rattle.terms.specs.Members.{unknown-below, formed-kernel}
+use Rattle.terms.specs.FormedParts.{unknown-below, formed-kernel}
 use Rattle.search.specs.declared.steps.Tails.{Tails}
 use Rattle.search.specs.declared.steps.Tails.the-variants.{Left, Right}
 use Rattle.search.specs.State.{State, pend}
@@ -19,7 +20,7 @@ use Rattle.search.specs.Classify.{tails-by, tails}
 use Rattle.search.specs.Children.{bound, settle}
 use Rattle.rows.specs.declared.parts.Rest.{Rest}
 use Rattle.rows.specs.declared.parts.Made.{Made}
-use Rattle.rows.specs.Members.{words-over}
+use Rattle.rows.specs.MemberWords.{words-over}
 use Rattle.rows.specs.Row.{Makes}
 use Rattle.binding.specs.Child.{ahead}
 use Rattle.choices.specs.declared.sides.Sides.{Sides}
@@ -49,11 +50,11 @@ unfolding tails
 right-kind t u e = kinds (is-unknown (kernel t)) (is-unknown (kernel u)) (eqb (number (kernel t)) (number (kernel u))) Right e .1 refl .1
 
 -- an unknown's word stands where its words do
-pub unknown-word : (l : List ℕ) (at n : ℕ) (t : Term) → seg l at n ≡ words edition-one t → is-unknown t ≡ true → 0 < n → getD l at 0 ≡ 1000 + number t
+pub unknown-word : (l : List ℕ) (at n : ℕ) (t : Term) → seg l at n ≡ words edition-one t → is-unknown t ≡ true → 0 < n → getD l at 0 ≡ FIRST-UNKNOWN + number t
 unfolding words edition-one
 unknown-word l at n t e f h =
     let u = unknown-number t f in
-    let w : seg l at n ≡ (1000 + number t) ∷ [] = e ∙ ap (words edition-one) u in
+    let w : seg l at n ≡ (FIRST-UNKNOWN + number t) ∷ [] = e ∙ ap (words edition-one) u in
     let z : at + 0 ≡ at = omega arith in
     rw z at (sym (getD-seg l at n 0 h)) ∙ ap (λ (ws : List ℕ). getD ws 0 0) w
 
@@ -67,19 +68,19 @@ module _ {arities l : List ℕ} {from : ℕ} {rest : Rest} {sides : Sides} {to l
   S = D .opened
 
   abbrev us : ℕ
-  us = scratch + (lent + 8)
+  us = right-row lent scratch
 
   abbrev picks : ℕ
-  picks = scratch + (lent + 8) + (lent + 8)
+  picks = picks-row lent scratch
 
   abbrev value : ℕ
-  value = scratch + (lent + 8) + (lent + 8) + (lent + 8)
+  value = value-row lent scratch
 
-  pub s-word : is-unknown (kernel (p .t)) ≡ true → getD l (from + 8 + sides .s) 0 ≡ 1000 + number (kernel (p .t))
-  s-word e = let N = numbers S in unknown-word l (from + 8 + sides .s) (sides .right - sides .s) (kernel (p .t)) (s-stands S) e (omega arith)
+  pub s-word : is-unknown (kernel (p .t)) ≡ true → getD l (from + HEADER + sides .s) 0 ≡ FIRST-UNKNOWN + number (kernel (p .t))
+  s-word e = let N = numbers S in unknown-word l (from + HEADER + sides .s) (sides .right - sides .s) (kernel (p .t)) (s-stands S) e (omega arith)
 
-  pub r-word : is-unknown (kernel (p .u)) ≡ true → getD l (from + 8 + sides .r) 0 ≡ 1000 + number (kernel (p .u))
-  r-word e = let N = numbers S in unknown-word l (from + 8 + sides .r) (sides .end - sides .r) (kernel (p .u)) (r-stands S) e (omega arith)
+  pub r-word : is-unknown (kernel (p .u)) ≡ true → getD l (from + HEADER + sides .r) 0 ≡ FIRST-UNKNOWN + number (kernel (p .u))
+  r-word e = let N = numbers S in unknown-word l (from + HEADER + sides .r) (sides .end - sides .r) (kernel (p .u)) (r-stands S) e (omega arith)
 
   pub s-small : is-unknown (kernel (p .t)) ≡ true → number (kernel (p .t)) < next
   s-small e = unknown-below (rw (unknown-number (kernel (p .t)) e) at (formed-kernel (S .formed-t)))
@@ -134,7 +135,7 @@ module _ {arities l : List ℕ} {from : ℕ} {rest : Rest} {sides : Sides} {to l
     due-laid : Due arities r from rest sides to lent next scratch p
     due-laid = due-elsewhere (value-elsewhere out put-there) D
 
-    laid : {x name : ℕ} → x ≡ 1000 + name → name < next → Bound arities r from rest sides x value m to lent next scratch p name v
+    laid : {x name : ℕ} → x ≡ FIRST-UNKNOWN + name → name < next → Bound arities r from rest sides x value m to lent next scratch p name v
     laid {x} {name} f g =
         let N = numbers S in
         let long = laid-below .long in
@@ -150,18 +151,18 @@ module _ {arities l : List ℕ} {from : ℕ} {rest : Rest} {sides : Sides} {to l
           by-apart = later (omega (arith, D .before));
         }
 
-    pub tail-laid : {x name : ℕ} → x ≡ 1000 + name → name < next → {a : Made} {q : List ℕ} → TailMade arities r from rest sides x value m to lent next scratch a q
+    pub tail-laid : {x name : ℕ} → x ≡ FIRST-UNKNOWN + name → name < next → {a : Made} {q : List ℕ} → TailMade arities r from rest sides x value m to lent next scratch a q
         → Makes edition-one l to lent (bound name v (pend (news p ++ p .st .pending) (p .st))) a q
     tail-laid {x} {name} f g M =
         rw (← ahead-is (news p) next (p .st) (S .next-is)) (makes-before laid-below (M .makes p name v (laid f g)))
 
-    pub tail-bound-parts : {x name : ℕ} → x ≡ 1000 + name → name < next → BoundParts arities r from rest sides x value m to lent next scratch
+    pub tail-bound-parts : {x name : ℕ} → x ≡ FIRST-UNKNOWN + name → name < next → BoundParts arities r from rest sides x value m to lent next scratch
     tail-bound-parts {x} {name} f g = record { p = p; name = name; value = v; bound = laid f g }
 
   -- ---- only s is an unknown
 
   module _ (kind : tails (p .t) (p .u) ≡ Left) {r : List ℕ} {m x : ℕ} (told : (m ≡ length (value-piece l from us (picks + sides .n) (sides .m) (sides .n) (sides .r) (sides .end - sides .r))) × (m ≤ getD l (us + sides .m) 0 + (sides .end - sides .r)))
-      (there : r ≡ put l value (value-piece l from us (picks + sides .n) (sides .m) (sides .n) (sides .r) (sides .end - sides .r))) (word : x ≡ getD l (from + 8 + sides .s) 0) where
+      (there : r ≡ put l value (value-piece l from us (picks + sides .n) (sides .m) (sides .n) (sides .r) (sides .end - sides .r))) (word : x ≡ getD l (from + HEADER + sides .s) 0) where
     left-short : length (value-piece l from us (picks + sides .n) (sides .m) (sides .n) (sides .r) (sides .end - sides .r)) ≤ lent
     left-short = let N = numbers S in omega (arith, told .0, told .1, r-noted S)
 
@@ -179,7 +180,7 @@ module _ {arities l : List ℕ} {from : ℕ} {rest : Rest} {sides : Sides} {to l
   -- ---- only r is an unknown
 
   module _ (kind : tails (p .t) (p .u) ≡ Right) {r : List ℕ} {m x : ℕ} (told : (m ≡ length (value-piece l from scratch picks (sides .n) (sides .m) (sides .s) (sides .right - sides .s))) × (m ≤ getD l (scratch + sides .n) 0 + (sides .right - sides .s)))
-      (there : r ≡ put l value (value-piece l from scratch picks (sides .n) (sides .m) (sides .s) (sides .right - sides .s))) (word : x ≡ getD l (from + 8 + sides .r) 0) where
+      (there : r ≡ put l value (value-piece l from scratch picks (sides .n) (sides .m) (sides .s) (sides .right - sides .s))) (word : x ≡ getD l (from + HEADER + sides .r) 0) where
     right-short : length (value-piece l from scratch picks (sides .n) (sides .m) (sides .s) (sides .right - sides .s)) ≤ lent
     right-short = let N = numbers S in omega (arith, told .0, told .1, s-noted S)
 

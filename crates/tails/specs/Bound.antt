@@ -4,7 +4,8 @@ use mathlib.Core.Path.{_≡_}
 use mathlib.Core.List.{List}
 use Rattle.room.specs.Room.{Within}
 use Rattle.room.specs.Parts.{Apart}
-use Rattle.terms.specs.Bounds.{edition-one}
+use Rattle.room.specs.Layout.{stride}
+use Rattle.terms.specs.Bounds.{edition-one, FIRST-UNKNOWN, PATH-UNKNOWNS}
 use Rattle.terms.specs.Term.{Term}
 use Rattle.search.specs.State.{Node, live}
 use Rattle.search.specs.Children.{bound, bound-state}
@@ -21,21 +22,21 @@ bound-child p next name value = live (bound-state name value (ahead (news p) nex
 
 -- where the row that is written lies
 pub record Target (l : List ℕ) (from lent scratch to : ℕ) : Type 0 where
-  pub to-within : Within l to (lent + 8)
-  pub low-apart : Apart 0 (from + (lent + 8)) to (lent + 8)
-  pub high-apart : Apart scratch (3 * (lent + 8)) to (lent + 8)
+  pub to-within : Within l to (stride lent)
+  pub low-apart : Apart 0 (from + stride lent) to (stride lent)
+  pub high-apart : Apart scratch (3 * stride lent) to (stride lent)
 
 pub record Bound (arities l : List ℕ) (from : ℕ) (rest : Rest) (sides : Sides) (x by m to lent next scratch : ℕ) (p : Parent) (name : ℕ) (value : Term) : Type 0 where
   -- the parent's next unknown
   pub named : ℕ
   pub opened : Opened arities l from rest sides lent named scratch p
   pub target : Target l from lent scratch to
-  pub x-is : x ≡ 1000 + name
-  pub name-small : name < 1000
+  pub x-is : x ≡ FIRST-UNKNOWN + name
+  pub name-small : name < FIRST-UNKNOWN
   pub stands : Stands l by m value
-  pub few : next ≤ 512
+  pub few : next ≤ PATH-UNKNOWNS
   pub by-within : Within l by m
-  pub by-apart : Apart by m to (lent + 8)
+  pub by-apart : Apart by m to (stride lent)
 
 pub record BoundParts (arities l : List ℕ) (from : ℕ) (rest : Rest) (sides : Sides) (x by m to lent next scratch : ℕ) : Type 0 where
   pub p : Parent

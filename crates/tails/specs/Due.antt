@@ -2,6 +2,7 @@
 use Prim.Native.Nat.{ℕ, _+_, _≤_}
 use mathlib.Core.Path.{_≡_}
 use mathlib.Core.List.{List}
+use Rattle.room.specs.Layout.{stride}
 use Rattle.terms.specs.Bounds.{edition-one}
 use Rattle.terms.specs.Term.{kernel}
 use Rattle.search.specs.declared.steps.Tails.{Tails}
@@ -11,7 +12,7 @@ use Rattle.search.specs.Children.{settle}
 use Rattle.rows.specs.declared.parts.Rest.{Rest}
 use Rattle.rows.specs.declared.parts.Made.{Made}
 use Rattle.rows.specs.Row.{Makes}
-use Rattle.turns.specs.Picking.{child-of}
+use Rattle.search_laws.specs.Picking.{child-of}
 use Rattle.choices.specs.declared.sides.Sides.{Sides}
 use Rattle.choices.specs.OpenParent.{Parent, Opened, Elsewhere, own-left, own-right, to-left, to-right, news}
 
@@ -21,8 +22,8 @@ child p = child-of (tails (p .t) (p .u)) (p .t) (p .u) (p .st) (p .ds) (p .es)
 -- its row lies between the parent's and the scratch
 pub record Due (arities l : List ℕ) (from : ℕ) (rest : Rest) (sides : Sides) (to lent next scratch : ℕ) (p : Parent) : Type 0 where
   pub opened : Opened arities l from rest sides lent next scratch p
-  pub after : from + (lent + 8) ≤ to
-  pub before : to + (lent + 8) ≤ scratch
+  pub after : from + stride lent ≤ to
+  pub before : to + stride lent ≤ scratch
 
 pub record ChildParts (arities l : List ℕ) (from : ℕ) (rest : Rest) (sides : Sides) (k : Tails) (to lent next scratch : ℕ) : Type 0 where
   pub p : Parent

@@ -5,7 +5,7 @@ use binding::bind::finish;
 use choices::equations::equations;
 use choices::sides::Sides;
 use replace::Copied;
-use rows::header::HEADER;
+use room::layout::HEADER;
 use rows::parts::Made;
 use rows::parts::Rest;
 use rows::parts::Sized;

@@ -9,7 +9,7 @@ ghost use Rattle.tails.specs.Due.{ChildParts, ChildMade};
 use crate::bound_tail::bind_tail;
 use crate::joined_members::tail_members;
 use choices::sides::Sides;
-use rows::header::HEADER;
+use room::layout::HEADER;
 use rows::parts::Made;
 use rows::parts::Rest;
 

@@ -7,18 +7,18 @@ use mathlib.Core.List.{List, []}
 use lib.ListN.{length, getD, drop, drop-of-length-le}
 use lib.Seq.{drop-cons}
 use Rattle.terms.specs.Bounds.{edition-one}
-use Rattle.pen.specs.Pen.{most, Wrote}
-use Rattle.pen.specs.OpenBrackets.{Bracket, brackets, Holds}
-use Rattle.pen.specs.Walk as walk
-use Rattle.pen.specs.Walk.{Writes, writes, deep, symbol, word, ended, prepend, onward, term-at, Stepped, went-on, was-deep, Passed, was-ended, was-too-deep}
-use Rattle.pen.specs.declared.begin.Symbol.{Symbol}
-use Rattle.pen.specs.declared.bracket.Pen.{Pen}
-use Rattle.pen.specs.declared.bracket.Step.{Step}
-use Rattle.pen.specs.declared.bracket.Step.the-variants.{On, Deep}
-use Rattle.pen.specs.declared.put.Passage.{Passage}
-use Rattle.pen.specs.declared.put.Passage.the-variants.{To, TooDeep}
-use Rattle.pen.specs.Passages.{passed-as, passed-after}
-use Rattle.pen.specs.Writing.{wrote-nothing, length-wrote, next-most}
+use Rattle.word_writer.specs.Pen.{most, Wrote}
+use Rattle.word_writer.specs.OpenBrackets.{Bracket, brackets, Holds}
+use Rattle.word_writer.specs.WordByWord as walk
+use Rattle.word_writer.specs.WordByWord.{Writes, writes, deep, symbol, word, ended, prepend, onward, term-at, Stepped, went-on, was-deep, Passed, was-ended, was-too-deep}
+use Rattle.word_writer.specs.declared.begin.Symbol.{Symbol}
+use Rattle.word_writer.specs.declared.bracket.Pen.{Pen}
+use Rattle.word_writer.specs.declared.bracket.Step.{Step}
+use Rattle.word_writer.specs.declared.bracket.Step.the-variants.{On, Deep}
+use Rattle.word_writer.specs.declared.put.Passage.{Passage}
+use Rattle.word_writer.specs.declared.put.Passage.the-variants.{To, TooDeep}
+use Rattle.word_writer.specs.Passages.{passed-as, passed-after}
+use Rattle.word_writer.specs.Writing.{wrote-nothing, length-wrote, next-most}
 
 -- ---- what a step tells
 

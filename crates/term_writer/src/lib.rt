@@ -1,3 +1,3 @@
-// A term written as text, word by word. `Walk` of `pen` says what each word writes.
+// A term written as text, word by word. `WordByWord` of `word_writer` says what each word writes.
 
 pub mod term;

@@ -2,21 +2,21 @@
 ghost use Prim.Native.Nat.{_-_, _≤_, _<_};
 ghost use lib.ListN.{length};
 ghost use Rattle.terms.specs.Bounds.{edition-one};
-ghost use Rattle.pen.specs.OpenBrackets.{brackets};
-ghost use Rattle.pen.specs.Walk.{symbol, continues, word as written-word, term-at, Stepped, Passed};
-use pen::begin::Symbol;
-use pen::begin::begin;
-use pen::begin::begin_tail;
-use pen::begin::symbol_of;
-use pen::bracket::MEMBER;
-use pen::bracket::Pen;
-use pen::bracket::REST;
-use pen::bracket::Step;
-use pen::bracket::TAIL;
-use pen::bracket::close;
-use pen::put::Passage;
-use pen::put::put_byte;
+ghost use Rattle.word_writer.specs.OpenBrackets.{brackets};
+ghost use Rattle.word_writer.specs.WordByWord.{symbol, continues, word as written-word, term-at, Stepped, Passed};
 use terms::bounds::NESTING;
+use word_writer::begin::Symbol;
+use word_writer::begin::begin;
+use word_writer::begin::begin_tail;
+use word_writer::begin::symbol_of;
+use word_writer::bracket::MEMBER;
+use word_writer::bracket::Pen;
+use word_writer::bracket::REST;
+use word_writer::bracket::Step;
+use word_writer::bracket::TAIL;
+use word_writer::bracket::close;
+use word_writer::put::Passage;
+use word_writer::put::put_byte;
 
 // A word where the rest of a set is due, in the innermost bracket.
 fn continue_set(symbol: Symbol, stack: &mut [u16], depth: usize, text: &mut [u8], at: usize) -> Step

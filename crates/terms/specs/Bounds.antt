@@ -21,19 +21,53 @@ pub record Bounds : Type 0 where
   pub symbols : ℕ
   pub nesting : ℕ
 
+-- the numbers of edition 1, under the names that the code has for them
+abbrev pub FIRST-UNKNOWN : ℕ
+FIRST-UNKNOWN = 1000
+
+abbrev pub UNKNOWN-WORDS : ℕ
+UNKNOWN-WORDS = 1000
+
+abbrev pub FIRST-FUNCTOR : ℕ
+FIRST-FUNCTOR = 2000
+
+abbrev pub FUNCTOR-WORDS : ℕ
+FUNCTOR-WORDS = 1000
+
+abbrev pub UNKNOWNS : ℕ
+UNKNOWNS = 256
+
+abbrev pub PATH-UNKNOWNS : ℕ
+PATH-UNKNOWNS = 512
+
+abbrev pub FUNCTORS : ℕ
+FUNCTORS = 256
+
+abbrev pub ARITY : ℕ
+ARITY = 8
+
+abbrev pub EQUATIONS : ℕ
+EQUATIONS = 64
+
+abbrev pub SYMBOLS : ℕ
+SYMBOLS = 4096
+
+abbrev pub NESTING : ℕ
+NESTING = 200
+
 unfoldable pub edition-one : Bounds
 edition-one = record {
-  first-unknown = 1000;
-  unknown-words = 1000;
-  first-functor = 2000;
-  functor-words = 1000;
-  unknowns = 256;
-  path-unknowns = 512;
-  functors = 256;
-  arity = 8;
-  equations = 64;
-  symbols = 4096;
-  nesting = 200;
+  first-unknown = FIRST-UNKNOWN;
+  unknown-words = UNKNOWN-WORDS;
+  first-functor = FIRST-FUNCTOR;
+  functor-words = FUNCTOR-WORDS;
+  unknowns = UNKNOWNS;
+  path-unknowns = PATH-UNKNOWNS;
+  functors = FUNCTORS;
+  arity = ARITY;
+  equations = EQUATIONS;
+  symbols = SYMBOLS;
+  nesting = NESTING;
 }
 
 -- what the laws of words need: no word says two things, and every number in use has its word. Which of the two ranges comes first is open.

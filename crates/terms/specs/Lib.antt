@@ -10,5 +10,5 @@ pub mod Flat
 pub mod Reading
 pub mod Walk
 pub mod Listing
-pub mod Members
+pub mod FormedParts
 pub mod Substitution

@@ -3,7 +3,7 @@
 // The definitions are in specs/. To believe: `Bounds` (the numbers of SPECIFICATION 3.1 and 3.2), `Term` (terms, their words, substitution, members and kernel),
 // `Formed` (formed terms, questions, when a question is good), `Kind` (what a word stands for), `Answers` and `Listing` (answers and their words),
 // `Reading` (words read back), `Refusal` (the number of each refusal). The laws: `Flat` (as many words as symbols; substitution is flat), `Reading` (unique
-// reading), `Walk` (where terms end), `Members`, `Substitution`.
+// reading), `Walk` (where terms end), `FormedParts`, `Substitution`.
 //
 // The code: `refusal` has what is told where a call is refused, and `bounds` the numbers. Crate `checks` tests lent words, and `walks` goes through them.
 

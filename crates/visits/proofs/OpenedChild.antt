@@ -6,31 +6,33 @@ use native.Mathlib.Omega.{arith}
 use native.Mathlib.Nat.{mul-le-mul}
 use lib.ListN.{length, take, drop}
 use Rattle.room.specs.Room.{seg, put}
+use Rattle.room.specs.Layout.{HEADER, stride}
 use Rattle.search.specs.declared.ends.End.the-variants.{Space}
 use Rattle.search.specs.declared.limits.Limits.{Limits}
+use Rattle.search.specs.RunLimits.{most-depth, most-size}
 use Rattle.rows.specs.declared.parts.Reached.the-variants.{Live}
 use Rattle.results.specs.declared.ran.Record.{Record}
-use Rattle.record.specs.declared.Noted.{Noted}
-use Rattle.record.specs.declared.Noted.the-variants.{Held, Space as NoSpace}
-use Rattle.record.specs.Counts.{counted, answer-in, note-by, held-by, Notable}
+use Rattle.answer_record.specs.declared.Noted.{Noted}
+use Rattle.answer_record.specs.declared.Noted.the-variants.{Held, Space as NoSpace}
+use Rattle.answer_record.specs.Counts.{counted, answer-in, note-by, held-by, Notable}
 use Rattle.visits.specs.declared.node.Turn.{Turn}
 use Rattle.visits.specs.declared.node.Turn.the-variants.{At, End}
 use Rattle.visits.specs.ChildNumber.{number-words, part-after}
 use Rattle.visits.specs.DueNode.{OpenParts, child-place, child-row, noted-turn, node-turn, node-room, node-answers}
 
-pub place-small : {level size : ℕ} → level ≤ 1024 → size ≤ 8192 → level * (size + 8) ≤ 8396800
-place-small {level} {size} h k = mul-le-mul {n₁ = level} {m₁ = size + 8} {n₂ = 1024} {m₂ = 8200} h (omega arith)
+pub place-small : {level size : ℕ} → level ≤ most-depth → size ≤ most-size → level * stride size ≤ 8396800
+place-small {level} {size} h k = mul-le-mul {n₁ = level} {m₁ = size + HEADER} {n₂ = 1024} {m₂ = 8200} h (omega arith)
 
 module _ {limits : Limits} {level : ℕ} {l a : List ℕ} {r : Record} {number : ℕ} (P : OpenParts limits level l a r number) {room : List ℕ} {more : Record} (next : ℕ)
-    (e : room ≡ put l (level * (limits .size + 8) + 5) (number-words next)) (m : more ≡ counted r 1) where
+    (e : room ≡ put l (level * stride (limits .size) + 5) (number-words next)) (m : more ≡ counted r 1) where
   abbrev part : List ℕ
-  part = take (child-place limits level + (limits .size + 8) - child-place limits level) (drop (child-place limits level) room)
+  part = take (child-place limits level + stride (limits .size) - child-place limits level) (drop (child-place limits level) room)
 
   row-now : part ≡ child-row limits level l
   unfolding seg
   row-now =
-      let n : child-place limits level + (limits .size + 8) - child-place limits level ≡ limits .size + 8 = omega arith in
-      rw (n, e) (part-after l (level * (limits .size + 8)) next (child-place limits level) (limits .size + 8) (omega arith))
+      let n : child-place limits level + stride (limits .size) - child-place limits level ≡ limits .size + HEADER = omega arith in
+      rw (n, e) (part-after l (level * stride (limits .size)) next (child-place limits level) (stride (limits .size)) (omega arith))
 
   pub note-asks : Notable part a more
   note-asks = rw (row-now, m) (P .notable)
@@ -44,7 +46,7 @@ module _ {limits : Limits} {level : ℕ} {l a : List ℕ} {r : Record} {number :
 
     room-as : room ≡ node-room limits level l number Live
     unfolding node-room
-    room-as = e ∙ ap (λ (k : ℕ). put l (level * (limits .size + 8) + 5) (number-words k)) after
+    room-as = e ∙ ap (λ (k : ℕ). put l (level * stride (limits .size) + 5) (number-words k)) after
 
     pub opened-held : {noted : Record} → n ≡ Held noted → Opened (At (level + 1) noted)
     unfolding node-turn node-answers noted-turn

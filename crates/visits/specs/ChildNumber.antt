@@ -7,6 +7,7 @@ use native.Mathlib.Omega.{arith}
 use lib.ListN.{getD}
 use Rattle.room.specs.Room.{seg, put}
 use Rattle.room.specs.Parts.{later, seg-put}
+use Rattle.room.specs.Layout.{HEADER}
 
 abbrev pub number-of : List ℕ → ℕ
 number-of ws = getD ws 0 0 + 65536 * getD ws 1 0
@@ -23,6 +24,6 @@ unfolding number-words
 number-none = refl
 
 -- a part after the header in which the number is written is as it was
-pub part-after : (l : List ℕ) (at n to k : ℕ) → at + 8 ≤ to → seg (put l (at + 5) (number-words n)) to k ≡ seg l to k
+pub part-after : (l : List ℕ) (at n to k : ℕ) → at + HEADER ≤ to → seg (put l (at + 5) (number-words n)) to k ≡ seg l to k
 unfolding number-words
 part-after l at n to k h = seg-put (number-words n) l (later (omega arith))

@@ -5,14 +5,16 @@ use mathlib.Core.List.{List}
 use lib.Dec.{eqb, leb}
 use lib.ListN.{length}
 use Rattle.room.specs.Room.{seg, put}
+use Rattle.room.specs.Layout.{stride}
 use Rattle.search.specs.declared.ends.End.the-variants.{Done, Steps, Depth, Names, Size, Space}
 use Rattle.search.specs.declared.limits.Limits.{Limits}
+use Rattle.search.specs.RunLimits.{most-depth, most-size, most-steps}
 use Rattle.rows.specs.declared.parts.Reached.{Reached}
 use Rattle.rows.specs.declared.parts.Reached.the-variants.{Names as ManyNames, Large, Live}
 use Rattle.results.specs.declared.ran.Record.{Record}
-use Rattle.record.specs.declared.Noted.{Noted}
-use Rattle.record.specs.declared.Noted.the-variants.{Held, Space as NoSpace}
-use Rattle.record.specs.Counts.{counted, answer-in, note-by, held-by, Notable}
+use Rattle.answer_record.specs.declared.Noted.{Noted}
+use Rattle.answer_record.specs.declared.Noted.the-variants.{Held, Space as NoSpace}
+use Rattle.answer_record.specs.Counts.{counted, answer-in, note-by, held-by, Notable}
 use Rattle.results.specs.declared.ran.Ending.{Ending}
 use Rattle.visits.specs.declared.node.Turn.{Turn}
 use Rattle.visits.specs.declared.node.Turn.the-variants.{At, End}
@@ -33,11 +35,11 @@ noted-turn level r (Held more) = At (level + 1) more
 noted-turn level r NoSpace = End (record { end = Space; counts = r })
 
 abbrev pub child-place : Limits → ℕ → ℕ
-child-place limits level = level * (limits .size + 8) + (limits .size + 8)
+child-place limits level = level * stride (limits .size) + stride (limits .size)
 
 -- the words of the child's row
 abbrev pub child-row : Limits → ℕ → List ℕ → List ℕ
-child-row limits level l = seg l (child-place limits level) (limits .size + 8)
+child-row limits level l = seg l (child-place limits level) (stride (limits .size))
 
 -- what becomes of a node: the turn, the room with the number of the child after it, and the answer words
 unfoldable pub node-turn : Limits → ℕ → List ℕ → (space : ℕ) → Record → Reached → Turn
@@ -48,7 +50,7 @@ node-turn limits level l space r Live = noted-turn level (counted r 1) (note-by 
 unfoldable pub node-room : Limits → ℕ → List ℕ → ℕ → Reached → List ℕ
 node-room limits level l number ManyNames = l
 node-room limits level l number Large = l
-node-room limits level l number Live = put l (level * (limits .size + 8) + 5) (number-words (number + 1))
+node-room limits level l number Live = put l (level * stride (limits .size) + 5) (number-words (number + 1))
 
 unfoldable pub node-answers : Limits → ℕ → List ℕ → List ℕ → Record → Reached → List ℕ
 node-answers limits level l a r ManyNames = a
@@ -57,9 +59,9 @@ node-answers limits level l a r Live = held-by (answer-in (child-row limits leve
 
 -- where a child is opened
 pub record OpenParts (limits : Limits) (level : ℕ) (l a : List ℕ) (r : Record) (number : ℕ) : Type 0 where
-  pub level-small : level ≤ 1024
-  pub size-small : limits .size ≤ 8192
-  pub visited : r .visited ≤ 1000000000
-  pub number-small : number ≤ 1000000000
-  pub within : child-place limits level + (limits .size + 8) ≤ length l
+  pub level-small : level ≤ most-depth
+  pub size-small : limits .size ≤ most-size
+  pub visited : r .visited ≤ most-steps
+  pub number-small : number ≤ most-steps
+  pub within : child-place limits level + stride (limits .size) ≤ length l
   pub notable : Notable (child-row limits level l) a (counted r 1)

@@ -3,6 +3,7 @@ ghost use mathlib.Core.Path.{_≡_};
 ghost use Prim.Native.Nat.{_+_, _*_, _<_, _^_};
 ghost use lib.ListN.{length};
 ghost use Rattle.room.specs.Room.{put, Within};
+ghost use Rattle.room.specs.Layout.{HEADER};
 ghost use Rattle.visits.specs.ChildNumber.{number-of, number-words};
 
 fn number_from(low: u16, high: u16) -> usize
@@ -21,7 +22,7 @@ pub fn number_in(words: &[u16]) -> usize
 
 // Writes the number of the next child of the row at `at`.
 pub fn set_number(room: &mut [u16], at: usize, number: usize)
-    requires { ⌜ Within (now room) at 8 × (number < 2 ^ 32) ⌝ }
+    requires { ⌜ Within (now room) at HEADER × (number < 2 ^ 32) ⌝ }
     ensures { λ _. ⌜ now (room .exit) ≡ put (now (room .entry)) (at + 5) (number-words number) ⌝ }
 {
     let low = number % 65536;

@@ -16,13 +16,13 @@ use Rattle.terms.specs.Term.{Term, words, size}
 use Rattle.terms.specs.Formed.{Formed, Equation, sides, row, Question}
 use Rattle.text.specs.Keys.{left-key, right-key}
 use Rattle.text.specs.Text.{text, line, equation-lines, question-text}
-use Rattle.pen.specs.Depths.{depths, row-depths, First, all-within, first-at, found, first-above}
+use Rattle.word_writer.specs.Depths.{depths, row-depths, First, all-within, first-at, found, first-above}
 use Rattle.lines.specs.Lines.{term-line, repeat, equation-at, header, question-lines}
-use Rattle.pen.specs.OpenBrackets.{closing, closed}
-use Rattle.pen.specs.Walk.{then, Walk, ended, too-deep, prepend, onward, walk, term-at}
+use Rattle.word_writer.specs.OpenBrackets.{closing, closed}
+use Rattle.word_writer.specs.WordByWord.{then, Walk, ended, too-deep, prepend, onward, walk, term-at}
 use Rattle.writer.specs.Written.{too-deep-in}
-use Rattle.pen.specs.Guarded.{guard}
-use Rattle.pen.specs.Tied.{Part, chain, from, on-to, before, spelt, finish, due-first, over, length-depths}
+use Rattle.word_writer.specs.Guarded.{guard}
+use Rattle.word_writer.specs.Tied.{Part, chain, from, on-to, before, spelt, finish, due-first, over, length-depths}
 
 -- ---- a guarded walk by its first bracket too deep
 

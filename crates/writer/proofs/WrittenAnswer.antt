@@ -20,13 +20,13 @@ use Rattle.terms.specs.declared.refusal.Refusal.{Refusal}
 use Rattle.terms.specs.declared.refusal.Checked.the-variants.{Fine}
 use Rattle.terms.specs.declared.refusal.Checked.the-variants as checked
 use Rattle.text.specs.Text.{question-text}
-use Rattle.pen.specs.Depths.{First, all-within, first-at}
+use Rattle.word_writer.specs.Depths.{First, all-within, first-at}
 use Rattle.lines.specs.Lines.{question-lines}
-use Rattle.pen.specs.Pen.{most, counted}
-use Rattle.pen.specs.Walk.{Walk, ended, Passed, was-ended, was-too-deep}
+use Rattle.word_writer.specs.Pen.{most, counted}
+use Rattle.word_writer.specs.WordByWord.{Walk, ended, Passed, was-ended, was-too-deep}
 use Rattle.writer.specs.Written.{fitted, nested, tested, held, too-deep-in, question-written, answered, measured}
-use Rattle.pen.specs.declared.put.Passage.{Passage}
-use Rattle.pen.specs.declared.put.Passage.the-variants.{To, TooDeep}
+use Rattle.word_writer.specs.declared.put.Passage.{Passage}
+use Rattle.word_writer.specs.declared.put.Passage.the-variants.{To, TooDeep}
 use Rattle.results.specs.declared.written.Written.{Written}
 use Rattle.results.specs.declared.written.Written.the-variants.{Length, Refused}
 use Rattle.writer.proofs.QuestionWalk.{settled, question-over}

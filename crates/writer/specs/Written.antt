@@ -21,12 +21,12 @@ use Rattle.terms.specs.declared.refusal.Checked.the-variants.{Fine}
 use Rattle.terms.specs.declared.refusal.Checked.the-variants as checked
 use Rattle.text.specs.AnswerText.{list-text}
 use Rattle.text.specs.Text.{question-text}
-use Rattle.pen.specs.Depths.{First, all-within, first-at, first-above, row-depths}
+use Rattle.word_writer.specs.Depths.{First, all-within, first-at, first-above, row-depths}
 use Rattle.lines.specs.ListLines.{list-depths}
-use Rattle.pen.specs.Pen.{counted}
-use Rattle.pen.specs.Walk.{Walk, ended, too-deep, Passed}
-use Rattle.pen.specs.declared.put.Passage.{Passage}
-use Rattle.pen.specs.declared.put.Passage.the-variants.{To, TooDeep}
+use Rattle.word_writer.specs.Pen.{counted}
+use Rattle.word_writer.specs.WordByWord.{Walk, ended, too-deep, Passed}
+use Rattle.word_writer.specs.declared.put.Passage.{Passage}
+use Rattle.word_writer.specs.declared.put.Passage.the-variants.{To, TooDeep}
 use Rattle.results.specs.declared.written.Written.{Written}
 use Rattle.results.specs.declared.written.Written.the-variants.{Length, Refused}
 

@@ -1,10 +1,10 @@
 // What a writer answers.
 ghost use mathlib.Core.Path.{_≡_};
 ghost use Rattle.writer.specs.Written.{answered};
-use pen::put::Passage;
 use results::written::Written;
 use terms::refusal::Cause;
 use terms::refusal::Refusal;
+use word_writer::put::Passage;
 
 // What is answered where so many bytes are lent, by what writing the text comes to.
 pub fn answer(passage: Passage, room: usize) -> Written

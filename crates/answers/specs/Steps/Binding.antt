@@ -13,7 +13,7 @@ use Rattle.terms.specs.Formed.{Equation}
 use Rattle.terms.specs.Answers.{Named}
 use Rattle.laws.specs.Laws.{_≈_, ≈sym, ≈trans}
 use Rattle.laws.specs.Values.{Values, value, Holds}
-use Rattle.laws.specs.Substitution.{value-bound}
+use Rattle.laws.specs.ValuesPut.{value-bound}
 use Rattle.laws.specs.Rank.{occurs-inside, occurs-cases, not-inside-itself}
 use Rattle.search.specs.State.{State, Node, dead, live}
 use Rattle.search.specs.Children.{replace-in, entries, others, released, kept, bound-state, bound, then-bound}

@@ -14,7 +14,7 @@ use Rattle.laws.specs.Laws.{_≈_, _≈*_, ≈sym, ≈more}
 use Rattle.laws.specs.Values.{Values, value, value*, given, GroundValues, Solves}
 use Rattle.laws.specs.Apart.{functor-parts}
 use Rattle.laws.specs.Members.{absorbed}
-use Rattle.laws.specs.Substitution.{value-over}
+use Rattle.laws.specs.ValuesPut.{value-over}
 use Rattle.search.specs.declared.steps.Step.{Step}
 use Rattle.search.specs.State.{State, Node, pend, renewed}
 use Rattle.search.specs.Classify.{classify}

@@ -14,7 +14,7 @@ use Rattle.terms.specs.Formed.{Formed, formed-unknown, formed-functor, Equation
 use Rattle.terms.specs.Substitution.{formed-wider, formed-subst}
 use Rattle.terms.specs.Answers.{Named}
 use Rattle.terms.specs.Listing.{Bound}
-use Rattle.terms.specs.Members.{formed-members, formed-kernel, formed-over, formed-list, unknown-below}
+use Rattle.terms.specs.FormedParts.{formed-members, formed-kernel, formed-over, formed-list, unknown-below}
 use Rattle.laws.specs.Members.{kernel-over}
 use Rattle.search.specs.declared.steps.Tails.{Tails}
 use Rattle.search.specs.declared.steps.Step.{Step}

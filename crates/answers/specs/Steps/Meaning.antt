@@ -8,7 +8,7 @@ use Rattle.terms.specs.Answers.{Named}
 use Rattle.laws.specs.Laws.{_≈_}
 use Rattle.laws.specs.Values.{Values, value, Solves}
 use Rattle.laws.specs.Members.{rebuild}
-use Rattle.laws.specs.Substitution.{value-over}
+use Rattle.laws.specs.ValuesPut.{value-over}
 use Rattle.search.specs.State.{State, Node, dead, live}
 
 -- a binding or an entry of the pile: the unknown's value equals the term's

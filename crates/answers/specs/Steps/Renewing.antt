@@ -13,7 +13,7 @@ use Rattle.terms.specs.Listing.{Bound}
 use Rattle.terms.specs.Substitution.{absent-above}
 use Rattle.laws.specs.Laws.{_≈_, ≈sym, ≈trans}
 use Rattle.laws.specs.Values.{Values, value, given, GroundValues, Holds}
-use Rattle.laws.specs.Substitution.{value-given}
+use Rattle.laws.specs.ValuesPut.{value-given}
 use Rattle.laws.specs.Solving.{ground-given}
 use Rattle.search.specs.State.{State, Node}
 use Rattle.answers.specs.Steps.Meaning.{HoldsNamed, MeetsState, MeetsNode}

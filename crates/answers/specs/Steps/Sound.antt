@@ -15,7 +15,7 @@ use Rattle.terms.specs.Answers.{Named}
 use Rattle.laws.specs.Laws.{_≈_, _≈*_, ≈refl, ≈sym, ≈trans, ≈functor, ≈none, ≈more, In, Within}
 use Rattle.laws.specs.Values.{Values, value, value*, Solves}
 use Rattle.laws.specs.Members.{within-self}
-use Rattle.laws.specs.Substitution.{value-bound}
+use Rattle.laws.specs.ValuesPut.{value-bound}
 use Rattle.laws.specs.Tails.{sound-different, sound-same}
 use Rattle.search.specs.declared.steps.Tails.{Tails}
 use Rattle.search.specs.declared.steps.Step.{Step}

@@ -30,15 +30,15 @@ use Rattle.reader.specs.LentBuffers.{question-into, answer}
 use Rattle.question_reader.specs.Questions as reader
 use Rattle.question_reader.specs.WholePlaces.{literal}
 use Rattle.results.specs.declared.read.Question.the-variants as reading
-use Rattle.pen.specs.Pen.{counted}
-use Rattle.pen.specs.Depths.{depths, row-depths, all-within, found, first-above}
+use Rattle.word_writer.specs.Pen.{counted}
+use Rattle.word_writer.specs.Depths.{depths, row-depths, all-within, found, first-above}
 use Rattle.lines.specs.ListLines.{binding-depths, list-depths}
-use Rattle.same.specs.Answering.{equality-after, equal-answer, solving-after, solves-answer}
+use Rattle.equality.specs.Answering.{equality-after, equal-answer, solving-after, solves-answer}
 use Rattle.writer.specs.Written.{held, fitted, nested, tested, too-deep-in, too-deep-in-list, question-written, check-list, text-of-list, list-written}
 use Rattle.results.specs.declared.written.Written.the-variants as writing
 use Rattle.results.specs.Result.{refuses, result}
 use Rattle.guarantees.specs.Calls.{Posed, asked, in-words, Lending, in-room, run-told, answers-after, question-told, question-after, list-told, list-after, text-told, arities-after, words-after}
-use Rattle.guarantees.specs.Wording.{largest, Nests-within, Writable, Writes, Reads, question-in, Compared, Tried, One-of}
+use Rattle.guarantees.specs.Notions.{largest, Nests-within, Writable, Writes, Reads, question-in, Compared, Tried, One-of}
 use Rattle.guarantees.specs.Examples.{calling, question, sufficient, outcome, gave, pair, one-answer, first-answer, gave-one}
 use Rattle.guarantees.specs.Promised
 

@@ -17,7 +17,7 @@ use Rattle.answers.specs.Fits.{States, Meets, Fits}
 use Rattle.answers.specs.DemandTwo as demand
 use Rattle.results.specs.Result.{gives}
 use Rattle.guarantees.specs.Calls.{Posed, asked, Lending, loan-of, run-told}
-use Rattle.guarantees.specs.Wording.{Granted, Read-once}
+use Rattle.guarantees.specs.Notions.{Granted, Read-once}
 use Rattle.guarantees.specs.Proofs.Granting.{granted-exactly, done-by-number}
 
 module _ (q : Posed) (l : Lending) (o : Outcome) (gave : run-told q l ≡ gives o) where

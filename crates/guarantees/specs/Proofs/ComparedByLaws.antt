@@ -19,13 +19,13 @@ use Rattle.laws.specs.Equal.{equal}
 use Rattle.laws.specs.Agree.{agree}
 use Rattle.laws.specs.Values.{Values, in-order, Solves, solves-test}
 use Rattle.laws.specs.Solving.{solves-agree}
-use Rattle.same.specs.Answering.{equality-after, equal-answer, solving-after, solves-answer}
+use Rattle.equality.specs.Answering.{equality-after, equal-answer, solving-after, solves-answer}
 use Rattle.results.specs.declared.compared.Equality.{Equality}
 use Rattle.results.specs.declared.compared.Equality.the-variants as equality
 use Rattle.results.specs.declared.compared.Solving.{Solving}
 use Rattle.results.specs.declared.compared.Solving.the-variants as solving
 use Rattle.guarantees.specs.Calls.{Posed, asked, solves-told}
-use Rattle.guarantees.specs.Wording.{Compared, Tried}
+use Rattle.guarantees.specs.Notions.{Compared, Tried}
 use Rattle.guarantees.specs.Proofs.{impossible}
 use Rattle.guarantees.specs.Proofs.Granting.{asked-exactly}
 

@@ -30,13 +30,13 @@ use Rattle.search.specs.RunLimits.{most-steps}
 use Rattle.search.specs.Run.{Loan, Outcome, Visit, Verdict, stops, overflows, goes-on, found, found-size, ends, verdict, spend, after, scan, ran}
 use Rattle.answers.specs.Fits.{States}
 use Rattle.search.specs.Verdicts.{Judged, counted, judged}
-use Rattle.pen.specs.Pen.{counted as as-counted}
-use Rattle.pen.specs.Depths.{First, all-within, first-at}
+use Rattle.word_writer.specs.Pen.{counted as as-counted}
+use Rattle.word_writer.specs.Depths.{First, all-within, first-at}
 use Rattle.writer.specs.Written.{check-list, tested, nested, fitted, list-written}
 use Rattle.results.specs.declared.written.Written.the-variants.{Length, Refused}
 use Rattle.results.specs.Result.{gives, words-told}
 use Rattle.guarantees.specs.Calls.{Posed, Lending, loan-of, run-told, answers-after, used, list-told}
-use Rattle.guarantees.specs.Wording.{Granted}
+use Rattle.guarantees.specs.Notions.{Granted}
 use Rattle.guarantees.specs.Proofs.{impossible}
 use Rattle.guarantees.specs.Proofs.Granting.{granted-exactly}
 use Rattle.guarantees.specs.Proofs.AnswersTrue.{answers-stated}

@@ -28,7 +28,7 @@ use Rattle.results.specs.Result.{Told, refuses, gives, told, told-within, resul
 use Rattle.results.specs.declared.ran.Ending.{Ending}
 use Rattle.results.specs.declared.ran.Ran.the-variants.{Ended}
 use Rattle.guarantees.specs.Calls.{Posed, asked, Lending, loan-of, run-told}
-use Rattle.guarantees.specs.Wording.{Granted}
+use Rattle.guarantees.specs.Notions.{Granted}
 use Rattle.guarantees.specs.Proofs.{impossible}
 
 -- words pass the check exactly if they ask a good question

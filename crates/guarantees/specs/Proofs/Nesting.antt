@@ -13,10 +13,10 @@ use Rattle.terms.specs.Term.{Term, Terms, unknown, empty, with, functor, more, 
 use Rattle.terms.specs.Term as term
 use Rattle.terms.specs.Formed.{Question}
 use Rattle.terms.specs.Answers.{Named}
-use Rattle.pen.specs.Depths.{depths, rest-depths, argument-depths, further-depths, row-depths, all-within, first-at, found, first-above}
+use Rattle.word_writer.specs.Depths.{depths, rest-depths, argument-depths, further-depths, row-depths, all-within, first-at, found, first-above}
 use Rattle.lines.specs.ListLines.{binding-depths, list-depths}
 use Rattle.writer.specs.Written.{too-deep-in, too-deep-in-list}
-use Rattle.guarantees.specs.Wording.{largest, Nests-within}
+use Rattle.guarantees.specs.Notions.{largest, Nests-within}
 use Rattle.guarantees.specs.Proofs.{impossible}
 
 module _ (most : ℕ) where

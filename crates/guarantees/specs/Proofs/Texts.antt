@@ -31,12 +31,12 @@ use Rattle.results.specs.declared.read.Question.the-variants as question
 use Rattle.roundtrip.specs.QuestionText as there
 use Rattle.roundtrip.specs.QuestionSpans.{Comes-from, comes-from}
 use Rattle.roundtrip.specs.QuestionSpans as back
-use Rattle.pen.specs.Depths.{First, all-within, first-at}
-use Rattle.pen.specs.Pen.{counted}
+use Rattle.word_writer.specs.Depths.{First, all-within, first-at}
+use Rattle.word_writer.specs.Pen.{counted}
 use Rattle.writer.specs.Written.{fitted, nested, tested, held, too-deep-in, question-written}
 use Rattle.results.specs.declared.written.Written.the-variants.{Length, Refused}
 use Rattle.guarantees.specs.Calls.{Posed, asked, in-words, question-told, question-after, text-told, arities-after, words-after}
-use Rattle.guarantees.specs.Wording.{Nests-within, Writable, Writes, Reads, question-in, One-of}
+use Rattle.guarantees.specs.Notions.{Nests-within, Writable, Writes, Reads, question-in, One-of}
 use Rattle.guarantees.specs.Proofs.{impossible}
 use Rattle.guarantees.specs.Proofs.Granting.{asked-exactly}
 use Rattle.guarantees.specs.Proofs.Nesting.{question-nests}

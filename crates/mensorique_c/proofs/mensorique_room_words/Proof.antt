@@ -4,6 +4,7 @@ use borrow.Author.Needs.{needs}
 use borrow.Author.Tests.{lt-ltb, le-ltb}
 use native.Mathlib.Nat.{mul-le-mul}
 use native.Mathlib.Omega.{arith}
+use Rattle.room.specs.Layout.{HEADER, SPARE-ROWS}
 use Rattle.results.specs.Loans.{needed}
 use Rattle.mensorique_c.proofs.mensorique_room_words.Statement.{statement}
 use Rattle.mensorique_c.proofs.mensorique_room_words.Tie as tie
@@ -21,7 +22,7 @@ add-result-2 : tie.Need-add-result-2
 add-result-2 c = search needs
 
 mul-result : tie.Need-mul-result
-mul-result c = omega (arith, mul-le-mul {n₁ = c .before .before .args .depth + 8} {m₁ = c .before .before .args .size + 8} {n₂ = 1032} {m₂ = 8200} (omega arith) (omega arith))
+mul-result c = omega (arith, mul-le-mul {n₁ = c .before .before .args .depth + SPARE-ROWS} {m₁ = c .before .before .args .size + HEADER} {n₂ = 1032} {m₂ = 8200} (omega arith) (omega arith))
 
 returns-3 : tie.Need-returns-3
 unfolding needed

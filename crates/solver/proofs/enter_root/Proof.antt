@@ -3,6 +3,7 @@ use mathlib.Core.Path.{sym, refl}
 use Prim.Native.Nat.{_+_}
 use native.Mathlib.Omega.{arith}
 use lib.Seq.{length-take-le}
+use Rattle.room.specs.Layout.{HEADER}
 use Rattle.solver.proofs.RootRun.{row-fits, root-notable, root-held, root-space}
 use borrow.Author.Needs.{needs}
 use Rattle.solver.proofs.enter_root.Statement.{statement}
@@ -15,7 +16,7 @@ slice-reshare-prefix-note : tie.Need-slice-reshare-prefix-note
 slice-reshare-prefix-note c = omega (arith, row-fits (c .before .before .before .before .pre .1 .suits))
 
 slice-aggregate-note : tie.Need-slice-aggregate-note
-slice-aggregate-note c = let start = c .before .before .before .before .before in sym (length-take-le (start .args .limits .size + 8) (start .args .room .now) (omega (arith, row-fits (start .pre .1 .suits))))
+slice-aggregate-note c = let start = c .before .before .before .before .before in sym (length-take-le (start .args .limits .size + HEADER) (start .args .room .now) (omega (arith, row-fits (start .pre .1 .suits))))
 
 note-requires : tie.Need-note-requires
 note-requires c κs = root-notable (c .before .before .before .before .before .before .pre .1) refl

@@ -7,10 +7,10 @@ use borrow.Author.Needs.{needs}
 use borrow.Fn.Kinds.{In}
 use borrow.Fn.PlainCycle.{Measures, is, falls, and}
 use Rattle.terms.specs.Term.{size}
-use Rattle.places.specs.Places.{held, valued, member-of}
-use Rattle.places.specs.Opened.{resolvable}
-use Rattle.places.specs.Membership.{rest-smaller}
-use Rattle.places.specs.Since.{since-length, settled-since, settled-told}
+use Rattle.term_places.specs.Places.{held, valued, member-of}
+use Rattle.term_places.specs.Opened.{resolvable}
+use Rattle.term_places.specs.Membership.{rest-smaller}
+use Rattle.term_places.specs.Since.{since-length, settled-since, settled-told}
 use Rattle.compare.proofs.Meeting.{Meeting, meeting-start, meeting-end, meeting-opened, meeting-at, meeting-asks, meeting-falls, meeting-yes, meeting-no}
 use Rattle.compare.proofs.Matching.{Matching, matching-start, matching-end, matching-opened, matching-at, matching-asks, matching-falls, matching-on, matching-no}
 use Rattle.compare.proofs.Arguing.{Arguing, arguing-differ, arguing-start, arguing-end, left-inside, right-inside, arguing-asks, arguing-falls, arguing-no, arguing-on}
@@ -30,13 +30,13 @@ use Rattle.compare.proofs.compare.+compare+each_meets+kernels+meets+sam
 use Rattle.compare.proofs.compare.same.Reads as same
 use Rattle.compare.proofs.compare.same.Kinds as same-kinds
 use Rattle.compare.proofs.compare.+compare+each_meets+kernels+meets+same.Lts-same as same-lts
-use Rattle.places.proofs.classes.both_settled.Reads as both-settled-reads
-use Rattle.places.proofs.classes.join.Reads as join-reads
-use Rattle.places.proofs.places.kernel.Reads as kernel-reads
-use Rattle.places.proofs.places.resolve.Reads as resolve-reads
-use Rattle.places.proofs.places.rest.Reads as rest-reads
-use Rattle.places.proofs.places.term_end.Reads as term-end-reads
-use Rattle.places.proofs.scan.covers.Reads as covers-reads
+use Rattle.term_places.proofs.classes.both_settled.Reads as both-settled-reads
+use Rattle.term_places.proofs.classes.join.Reads as join-reads
+use Rattle.term_places.proofs.places.kernel.Reads as kernel-reads
+use Rattle.term_places.proofs.places.resolve.Reads as resolve-reads
+use Rattle.term_places.proofs.places.rest.Reads as rest-reads
+use Rattle.term_places.proofs.places.term_end.Reads as term-end-reads
+use Rattle.term_places.proofs.scan.covers.Reads as covers-reads
 use Rattle.walks.proofs.walk.terms_after.Reads as terms-after-reads
 use Rattle.compare.proofs.compare.+compare+each_meets+kernels+meets+same.{statement}
 use Rattle.compare.proofs.compare.+compare+each_meets+kernels+meets+same.Tie.{close}

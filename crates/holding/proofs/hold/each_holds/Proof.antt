@@ -1,8 +1,8 @@
 use mathlib.Core.Path.{_≡_, _∙_, sym}
 use native.Mathlib.Omega.{arith}
 use borrow.Author.Needs.{needs}
-use Rattle.places.specs.Places.{held}
-use Rattle.places.specs.Opened.{resolvable}
+use Rattle.term_places.specs.Places.{held}
+use Rattle.term_places.specs.Opened.{resolvable}
 use Rattle.holding.proofs.Holds.{Holds, holds-start, holds-end, left-in, right-in, holds-asks, holds-no, holds-on}
 use Rattle.holding.proofs.hold.each_holds.Statement.{statement}
 use Rattle.holding.proofs.hold.each_holds.Tie as tie

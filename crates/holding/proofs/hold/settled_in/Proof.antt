@@ -1,7 +1,7 @@
 use mathlib.Core.Path.{_∙_, sym}
 use native.Mathlib.Omega.{arith}
 use borrow.Author.Needs.{needs}
-use Rattle.places.specs.Relabelled.{each-its-own}
+use Rattle.term_places.specs.Relabelled.{each-its-own}
 use Rattle.ranks.specs.Ranked.{ranked-cleared}
 use Rattle.holding.proofs.Holds.{relabelled-equations}
 use Rattle.holding.proofs.hold.settled_in.Statement.{statement}

@@ -1,6 +1,6 @@
 use mathlib.Core.Path.{sym, ap}
 use Rattle.search.specs.Ends.{end-word}
-use Rattle.pen.specs.Writing.{wrote-as}
+use Rattle.word_writer.specs.Writing.{wrote-as}
 use borrow.Author.Needs.{needs}
 use Rattle.lines.proofs.list_lines.put_end.Statement.{statement}
 use Rattle.lines.proofs.list_lines.put_end.Tie as tie

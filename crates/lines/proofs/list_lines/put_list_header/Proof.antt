@@ -1,5 +1,5 @@
 use Rattle.lines.specs.ListLines.{list-header}
-use Rattle.pen.specs.Writing.{wrote-then}
+use Rattle.word_writer.specs.Writing.{wrote-then}
 use borrow.Author.Needs.{needs}
 use Rattle.lines.proofs.list_lines.put_list_header.Statement.{statement}
 use Rattle.lines.proofs.list_lines.put_list_header.Tie as tie

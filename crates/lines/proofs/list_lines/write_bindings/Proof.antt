@@ -4,7 +4,7 @@ use Rattle.terms.specs.Bounds.{edition-one}
 use Rattle.lines.specs.Lines.{repeat}
 use Rattle.lines.specs.ListLines.{binding-at}
 use Rattle.lines.proofs.Lined.{repeat-some, repeat-none}
-use Rattle.pen.specs.Passages.{Rest, rest-all, rest-as, rest-none, rest-then, rest-stop}
+use Rattle.word_writer.specs.Passages.{Rest, rest-all, rest-as, rest-none, rest-then, rest-stop}
 use Rattle.lines.proofs.list_lines.write_bindings.Statement.{statement}
 use Rattle.lines.proofs.list_lines.write_bindings.Tie as tie
 

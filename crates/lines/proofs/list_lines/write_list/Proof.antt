@@ -1,5 +1,5 @@
 use Rattle.lines.specs.ListLines.{list-lines}
-use Rattle.pen.specs.Passages.{passed-after}
+use Rattle.word_writer.specs.Passages.{passed-after}
 use borrow.Author.Needs.{needs}
 use Rattle.lines.proofs.list_lines.write_list.Statement.{statement}
 use Rattle.lines.proofs.list_lines.write_list.Tie as tie

@@ -4,7 +4,7 @@ use mathlib.Core.Path.{ap}
 use lib.ListN.{length, drop}
 use Rattle.text.specs.Text.{decimal, further-numbers}
 use Rattle.lines.proofs.Lined.{further-some, further-none}
-use Rattle.pen.specs.Writing.{Owed, owed-all, owed-as, owed-wrote, owed-nothing, wrote-as}
+use Rattle.word_writer.specs.Writing.{Owed, owed-all, owed-as, owed-wrote, owed-nothing, wrote-as}
 use Rattle.lines.proofs.question_lines.put_further.Statement.{statement}
 use Rattle.lines.proofs.question_lines.put_further.Tie as tie
 

@@ -2,7 +2,7 @@ use borrow.Author.Needs.{needs}
 use mathlib.Core.Path.{ap}
 use Rattle.text.specs.Text.{decimal}
 use Rattle.lines.proofs.Lined.{numbers-none, numbers-some}
-use Rattle.pen.specs.Writing.{wrote-nothing, wrote-then, wrote-as}
+use Rattle.word_writer.specs.Writing.{wrote-nothing, wrote-then, wrote-as}
 use borrow.Author.Needs.{needs}
 use Rattle.lines.proofs.question_lines.put_numbers.Statement.{statement}
 use Rattle.lines.proofs.question_lines.put_numbers.Tie as tie

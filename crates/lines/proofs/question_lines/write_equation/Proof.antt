@@ -1,5 +1,5 @@
 use Rattle.lines.specs.Lines.{equation-at}
-use Rattle.pen.specs.Passages.{passed-then, passed-stop}
+use Rattle.word_writer.specs.Passages.{passed-then, passed-stop}
 use borrow.Author.Needs.{needs}
 use Rattle.lines.proofs.question_lines.write_equation.Statement.{statement}
 use Rattle.lines.proofs.question_lines.write_equation.Tie as tie

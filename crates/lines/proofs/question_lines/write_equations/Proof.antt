@@ -3,7 +3,7 @@ use mathlib.Core.Path.{_∙_}
 use Rattle.terms.specs.Bounds.{edition-one}
 use Rattle.lines.specs.Lines.{repeat, equation-at}
 use Rattle.lines.proofs.Lined.{repeat-some, repeat-none}
-use Rattle.pen.specs.Passages.{Rest, rest-all, rest-as, rest-none, rest-then, rest-stop}
+use Rattle.word_writer.specs.Passages.{Rest, rest-all, rest-as, rest-none, rest-then, rest-stop}
 use Rattle.lines.proofs.question_lines.write_equations.Statement.{statement}
 use Rattle.lines.proofs.question_lines.write_equations.Tie as tie
 

@@ -1,7 +1,7 @@
 use borrow.Author.Needs.{needs}
 use mathlib.Core.Path.{_∙_}
 use Rattle.lines.specs.Lines.{question-lines}
-use Rattle.pen.specs.Passages.{passed-after}
+use Rattle.word_writer.specs.Passages.{passed-after}
 use Rattle.lines.proofs.question_lines.write_lines.Statement.{statement}
 use Rattle.lines.proofs.question_lines.write_lines.Tie as tie
 

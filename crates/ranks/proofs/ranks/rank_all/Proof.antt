@@ -1,6 +1,6 @@
 use mathlib.Core.Path.{_∙_, sym}
 use native.Mathlib.Omega.{arith}
-use Rattle.places.specs.Places.{held}
+use Rattle.term_places.specs.Places.{held}
 use Rattle.ranks.proofs.Ranking.{next-in, ends-in, Rated, rated-of, rated-on, rated-set-of, rated-past}
 use Rattle.ranks.proofs.ranks.rank_all.Statement.{statement}
 use Rattle.ranks.proofs.ranks.rank_all.Tie as tie

@@ -1,9 +1,9 @@
 use mathlib.Core.Path.{_≡_}
 use native.Mathlib.Omega.{arith}
 use borrow.Author.Needs.{needs}
-use Rattle.places.specs.Places.{held}
-use Rattle.places.specs.Opened.{resolvable}
-use Rattle.places.specs.Arguments.{following}
+use Rattle.term_places.specs.Places.{held}
+use Rattle.term_places.specs.Opened.{resolvable}
+use Rattle.term_places.specs.Arguments.{following}
 use Rattle.ranks.proofs.Ranking.{Reckoning, reckoning-start, reckoning-end, argument-in, resolved-in, reckoning-on}
 use Rattle.ranks.proofs.ranks.rank_of_functor.Statement.{statement}
 use Rattle.ranks.proofs.ranks.rank_of_functor.Tie as tie

@@ -1,7 +1,7 @@
 use native.Mathlib.Omega.{arith}
 use borrow.Author.Needs.{needs}
-use Rattle.places.specs.Places.{member-of, rest-of}
-use Rattle.places.specs.Opened.{resolvable}
+use Rattle.term_places.specs.Places.{member-of, rest-of}
+use Rattle.term_places.specs.Opened.{resolvable}
 use Rattle.ranks.proofs.Ranking.{next-in, ends-in, member-in, rest-in, set-told}
 use Rattle.ranks.proofs.ranks.rank_of_set.Statement.{statement}
 use Rattle.ranks.proofs.ranks.rank_of_set.Tie as tie

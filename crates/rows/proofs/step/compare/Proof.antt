@@ -1,4 +1,4 @@
-use Rattle.rows.proofs.Steps.{compared-apart, compared-empty, compared-sets, compared-functors}
+use Rattle.rows.proofs.StepTests.{compared-apart, compared-empty, compared-sets, compared-functors}
 use mathlib.Core.Path.{sym, _∙_}
 use borrow.Author.Needs.{needs}
 use Rattle.rows.proofs.step.compare.Statement.{statement}

@@ -1,4 +1,4 @@
-use Rattle.rows.proofs.Steps.{met-absent, met-nowhere, met-as-tail, met-inside}
+use Rattle.rows.proofs.StepTests.{met-absent, met-nowhere, met-as-tail, met-inside}
 use mathlib.Core.Path.{sym, _∙_}
 use borrow.Author.Needs.{needs}
 use Rattle.rows.proofs.step.meet.Statement.{statement}

@@ -1,4 +1,4 @@
-use Rattle.rows.proofs.Steps.{two-same, two-different, left-met, right-met, none-met}
+use Rattle.rows.proofs.StepTests.{two-same, two-different, left-met, right-met, none-met}
 use mathlib.Core.Path.{sym, _∙_}
 use borrow.Author.Needs.{needs}
 use Rattle.rows.proofs.step.step_for.Statement.{statement}

@@ -1,4 +1,4 @@
-use Rattle.rows.proofs.Steps.{tails-told}
+use Rattle.rows.proofs.StepTests.{tails-told}
 use Rattle.search.specs.Classify.{tails-by}
 use borrow.Author.Tests.{eq-eqb, ne-eqb}
 use mathlib.Core.Path.{refl, sym, _∙_}

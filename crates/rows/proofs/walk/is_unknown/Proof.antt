@@ -1,15 +1,16 @@
 use borrow.Author.Tests.{le-leb, lt-leb}
 use Rattle.terms.specs.Kind.{within}
+use Rattle.terms.specs.Bounds.{FIRST-UNKNOWN}
 use Rattle.rows.proofs.walk.is_unknown.Statement.{statement}
 use Rattle.rows.proofs.walk.is_unknown.Tie as tie
 
 returns : tie.Need-returns
 unfolding within
-returns c = rw (le-leb 1000 (c .before .args .word) (c .if1 .taken))
+returns c = rw (le-leb FIRST-UNKNOWN (c .before .args .word) (c .if1 .taken))
 
 returns-2 : tie.Need-returns-2
 unfolding within
-returns-2 c = rw (lt-leb 1000 (c .before .args .word) (c .if1 .left))
+returns-2 c = rw (lt-leb FIRST-UNKNOWN (c .before .args .word) (c .if1 .left))
 
 pub is-unknown-spec : {M : Type 1} → statement M
 is-unknown-spec = tie.close (tie.spec returns returns-2)

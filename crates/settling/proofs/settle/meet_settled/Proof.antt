@@ -3,9 +3,9 @@ use mathlib.Core.Path.{_∙_}
 use native.Mathlib.Omega.{arith}
 use borrow.Author.Needs.{needs}
 use lib.ListN.{length}
-use Rattle.places.specs.Places.{held}
-use Rattle.places.specs.Since.{since-length}
-use Rattle.settling.proofs.Settling.{Passing, passing-start, passing-end, passing-settled, passing-skip, passing-asks, passing-yes, passing-no}
+use Rattle.term_places.specs.Places.{held}
+use Rattle.term_places.specs.Since.{since-length}
+use Rattle.settling.proofs.SettlingLoop.{Passing, passing-start, passing-end, passing-settled, passing-skip, passing-asks, passing-yes, passing-no}
 use Rattle.settling.proofs.settle.meet_settled.Statement.{statement}
 use Rattle.settling.proofs.settle.meet_settled.Tie as tie
 

@@ -1,7 +1,7 @@
 use mathlib.Core.Path.{_∙_, sym}
 use native.Mathlib.Omega.{arith}
-use Rattle.places.specs.Places.{held}
-use Rattle.settling.proofs.Settling.{Going, going-start, going-in, going-past, going-settling, going-on}
+use Rattle.term_places.specs.Places.{held}
+use Rattle.settling.proofs.SettlingLoop.{Going, going-start, going-in, going-past, going-settling, going-on}
 use Rattle.settling.proofs.settle.settle.Statement.{statement}
 use Rattle.settling.proofs.settle.settle.Tie as tie
 

@@ -1,7 +1,7 @@
 use Prim.Native.Nat.{_-_}
 use mathlib.Core.Path.{_∙_}
 use lib.ListN.{length-set}
-use Rattle.pen.proofs.Steps.{continued-empty, continued-adding, continued-unknown, continued-functor}
+use Rattle.word_writer.proofs.WordSteps.{continued-empty, continued-adding, continued-unknown, continued-functor}
 use borrow.Author.Needs.{needs}
 use Rattle.term_writer.proofs.term.continue_set.Statement.{statement}
 use Rattle.term_writer.proofs.term.continue_set.Tie as tie

@@ -1,4 +1,4 @@
-use Rattle.pen.proofs.Steps.{word-first, word-rest, word-other}
+use Rattle.word_writer.proofs.WordSteps.{word-first, word-rest, word-other}
 use borrow.Author.Needs.{needs}
 use Rattle.term_writer.proofs.term.write_word.Statement.{statement}
 use Rattle.term_writer.proofs.term.write_word.Tie as tie

@@ -1,8 +1,0 @@
-pub mod Pen
-pub mod OpenBrackets
-pub mod Walk
-pub mod Depths
-pub mod Writing
-pub mod Passages
-pub mod Guarded
-pub mod Tied
