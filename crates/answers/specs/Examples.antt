@@ -9,7 +9,7 @@ use lib.Dec.{leb}
 use lib.ListN.{length, getD}
 use borrow.Author.Tests.{leb-true}
 use native.Mathlib.Omega.{arith}
-use Rattle.terms.specs.Bounds.{edition-one, edition-one-proper}
+use Rattle.terms.specs.Bounds.{edition-one, edition-one-proper, SYMBOLS, ARITY, PATH-UNKNOWNS}
 use Rattle.terms.specs.Lists.{All, Any, none, both, here, there, all, all→, All-map}
 use Rattle.terms.specs.Term.{Term, unknown, with, functor, words, members, over, count}
 use Rattle.terms.specs.Term as term
@@ -55,13 +55,13 @@ x0-formed = formed-unknown {i = 0} (omega arith)
 x1-formed : Formed arities 2 (unknown 1)
 x1-formed = formed-unknown {i = 1} (omega arith)
 
-good : {t u : Term} → Formed arities 1 t → Formed arities 1 u → length (row edition-one (t ∷ u ∷ [])) ≤ 4096 → Good edition-one (asks 1 t u)
+good : {t u : Term} → Formed arities 1 t → Formed arities 1 u → length (row edition-one (t ∷ u ∷ [])) ≤ SYMBOLS → Good edition-one (asks 1 t u)
 unfolding edition-one sides all
 good left right h =
     record {
       unknowns = omega arith;
       functors = omega arith;
-      arities = All-map (λ k e. leb-true k 8 e) (all→ (λ k. leb k 8) arities refl);
+      arities = All-map (λ k e. leb-true k ARITY e) (all→ (λ k. leb k ARITY) arities refl);
       equations = omega arith;
       formed = both left (both right none);
       symbols = h;
@@ -85,7 +85,7 @@ only (there h) = elim h [ ]
 states : {l r t : Term} → Formed arities 2 t → States edition-one (asks 1 l r) (answer-words edition-one (first-is t))
 unfolding edition-one
 states {t = t} f =
-    let first : 0 < 512 = omega arith in
+    let first : 0 < PATH-UNKNOWNS = omega arith in
     record { bindings = first-is t; formed = both (record { name = first; value = formed-wider (omega arith) f }) none; words = refl }
 
 -- x0 = v solves the question exactly if some ground value of x1 makes v the value of t

@@ -4,7 +4,7 @@ ghost use mathlib.Core.Path.{_≡_};
 ghost use mathlib.Core.List.{List};
 ghost use Prim.Native.Nat.{ℕ, _≤_, _<_};
 ghost use lib.ListN.{length, take};
-ghost use Rattle.terms.specs.Bounds.{edition-one};
+ghost use Rattle.terms.specs.Bounds.{edition-one, UNKNOWNS, SYMBOLS, FUNCTORS};
 ghost use Rattle.numerals.specs.Numbers.{of-numeral};
 ghost use Rattle.items.specs.Items.{name, an-unknown, arguments, a-functor, a-set, beginning, of-next, count-of-next, Room};
 use items::item::Item;
@@ -47,9 +47,9 @@ fn read_name(text: &[u8], at: usize, declared: usize, n: usize) -> Numeral
 
 // The unknown whose letter stands at `at`.
 fn read_unknown(text: &[u8], at: usize, unknowns: usize, words: &mut [u16], n: usize) -> Next
-    requires { ⌜ Room (now words) n × (at < length (now text)) × (unknowns ≤ 256) ⌝ }
+    requires { ⌜ Room (now words) n × (at < length (now text)) × (unknowns ≤ UNKNOWNS) ⌝ }
     ensures exact { λ r. ⌜ of-next r (now (words .exit)) ≡ an-unknown edition-one (now (text .entry)) unknowns at (take n (now (words .entry))) ⌝ }
-    ensures within { λ r. ⌜ count-of-next r ≤ 4096 ⌝ }
+    ensures within { λ r. ⌜ count-of-next r ≤ SYMBOLS ⌝ }
 {
     match read_name(text, at, unknowns, n) {
         Numeral::Value(i, p) => {
@@ -98,9 +98,9 @@ fn read_functor(
     words: &mut [u16],
     n: usize,
 ) -> Next
-    requires { ⌜ Room (now words) n × (at < length (now text)) × (length (now arities) ≤ 256) ⌝ }
+    requires { ⌜ Room (now words) n × (at < length (now text)) × (length (now arities) ≤ FUNCTORS) ⌝ }
     ensures exact { λ r. ⌜ of-next r (now (words .exit)) ≡ a-functor edition-one (now (text .entry)) (now (arities .entry)) depth at (take n (now (words .entry))) ⌝ }
-    ensures within { λ r. ⌜ count-of-next r ≤ 4096 ⌝ }
+    ensures within { λ r. ⌜ count-of-next r ≤ SYMBOLS ⌝ }
 {
     match read_name(text, at, arities.len(), n) {
         Numeral::Value(k, p) => {
@@ -115,7 +115,7 @@ fn read_functor(
 fn open_set(text: &[u8], at: usize, depth: usize, words: &mut [u16], n: usize) -> Next
     requires { ⌜ Room (now words) n × (at < length (now text)) ⌝ }
     ensures exact { λ r. ⌜ of-next r (now (words .exit)) ≡ a-set edition-one (now (text .entry)) depth at (take n (now (words .entry))) ⌝ }
-    ensures within { λ r. ⌜ count-of-next r ≤ 4096 ⌝ }
+    ensures within { λ r. ⌜ count-of-next r ≤ SYMBOLS ⌝ }
 {
     if peek(text, at + 1) == bytes::SET_CLOSES {
         return end_empty(text, at + 1, words, n);
@@ -139,9 +139,9 @@ pub fn begin(
     words: &mut [u16],
     n: usize,
 ) -> Next
-    requires { ⌜ Room (now words) n × (unknowns ≤ 256) × (length (now arities) ≤ 256) ⌝ }
+    requires { ⌜ Room (now words) n × (unknowns ≤ UNKNOWNS) × (length (now arities) ≤ FUNCTORS) ⌝ }
     ensures exact { λ r. ⌜ of-next r (now (words .exit)) ≡ beginning edition-one (now (text .entry)) unknowns (now (arities .entry)) depth at (take n (now (words .entry))) ⌝ }
-    ensures within { λ r. ⌜ count-of-next r ≤ 4096 ⌝ }
+    ensures within { λ r. ⌜ count-of-next r ≤ SYMBOLS ⌝ }
 {
     let b = peek(text, at);
     if b == bytes::UNKNOWN {

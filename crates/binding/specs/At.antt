@@ -9,7 +9,7 @@ use lib.Seq.{take-at, getD-append-add}
 use Rattle.room.specs.Room.{seg, Within, seg-append, seg-seg, take-seg}
 use Rattle.room.specs.Parts.{Apart, earlier}
 use Rattle.room.specs.Layout.{HEADER}
-use Rattle.terms.specs.Bounds.{edition-one, edition-one-proper, PATH-UNKNOWNS, FIRST-UNKNOWN}
+use Rattle.terms.specs.Bounds.{edition-one, edition-one-proper, PATH-UNKNOWNS, FIRST-UNKNOWN, FUNCTORS}
 use Rattle.terms.specs.Kind.{Worded}
 use Rattle.terms.specs.Lists.{All, both}
 use Rattle.terms.specs.Term.{Term, unknown, words, size}
@@ -33,7 +33,7 @@ use Rattle.rows.specs.MemberWords.{head-word, head-words, head-unknown}
 use Rattle.rows.specs.First.{first-in, subject-in, subject-by, rest-after, holds-rest, cut-sizes, middle, first-in-words}
 
 pub record Sound (arities : List ℕ) (st : State) : Type 0 where
-  pub functors : length arities ≤ 256
+  pub functors : length arities ≤ FUNCTORS
   pub few : st .next ≤ PATH-UNKNOWNS
   pub pending : All (Formed arities (st .next)) (sides (st .pending))
   pub pile : All (λ n. Formed arities (st .next) (n .value)) (st .pile)

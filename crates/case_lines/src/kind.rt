@@ -76,9 +76,12 @@ fn numbered(i: usize) -> Kind {
     }
 }
 
+// How many kinds have a name.
+const NAMED: usize = 8;
+
 // The names stand in the order of `numbered`.
 fn named(name: &[u8]) -> Kind {
-    for i in 0..8 {
+    for i in 0..NAMED {
         if same(
             name,
             field(b"text\tread\twriteq\twritel\tequal\tvalues\trun\trunw", i),

@@ -6,7 +6,7 @@ use native.Mathlib.Omega.{arith}
 use lib.ListN.{length, getD, set, length-append}
 use Rattle.room.specs.Room.{seg, put, length-put, put-nil, put-more, seg-zero, seg-cons}
 use Rattle.room.specs.Parts.{apart-part, getD-put}
-use Rattle.terms.specs.Bounds.{edition-one}
+use Rattle.terms.specs.Bounds.{edition-one, BYTES}
 use Rattle.terms.specs.Kind.{takes}
 use Rattle.choices.specs.MemberPlaces.{noted, noted-mark, noted-kernel, noted-out, noted-on, NoteParts}
 
@@ -93,7 +93,7 @@ module _ {arities r₀ : List ℕ} {body first end to : ℕ} {r : List ℕ} {pla
         let at : body + place + 1 ≡ body + (place + 1) = omega arith in
         rw (many, word-is, seg-cons r₀ (body + place) (end - (place + 1)) (omega (arith, S .parts .body-within)), at)
 
-    pub word-passed : 0 < due → (k : ℕ) → k ≡ takes edition-one arities word → k < 256 → Noting arities r₀ body first end to r (place + 1) (due - 1 + k) n
+    pub word-passed : 0 < due → (k : ℕ) → k ≡ takes edition-one arities word → k < BYTES → Noting arities r₀ body first end to r (place + 1) (due - 1 + k) n
     word-passed z k e f = record {
       parts = S .parts;
       after = omega (arith, S .after);

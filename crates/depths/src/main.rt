@@ -5,28 +5,39 @@ use equality::equal;
 use equality::solves;
 use results::compared::Equality;
 use results::compared::Solving;
+use terms::bounds::EMPTY;
+use terms::bounds::FIRST_FUNCTOR;
+use terms::bounds::FIRST_UNKNOWN;
+use terms::bounds::FUNCTORS;
+use terms::bounds::MEMBER;
 use terms::refusal::Refusal;
 use terms::refusal::number_of;
 
 const LINE_END: u8 = 10;
+
+// the words of a question, of the bar and of a row
+const LINE_WORDS: usize = 8193;
+
+// the word of unknown 1
+const SECOND_UNKNOWN: u16 = 1001;
 
 // the word of the letter |
 const BAR: u16 = 2124;
 
 fn word_of(letter: u8) -> u16 {
     if letter == b'0' {
-        return 0;
+        return EMPTY;
     }
     if letter == b'1' {
-        return 1;
+        return MEMBER;
     }
     if letter == b'x' {
-        return 1000;
+        return FIRST_UNKNOWN;
     }
     if letter == b'y' {
-        return 1001;
+        return SECOND_UNKNOWN;
     }
-    2000 + letter as u16
+    FIRST_FUNCTOR + letter as u16
 }
 
 fn tell_refusal(refusal: Refusal) {
@@ -80,7 +91,7 @@ fn bar(line: &[u16]) -> usize {
 }
 
 fn tell(line: &[u16]) {
-    let mut arities = [0u8; 256];
+    let mut arities = [0u8; FUNCTORS];
     arities[103] = 1;
     arities[112] = 2;
     let k = bar(line);
@@ -113,7 +124,7 @@ fn tell_lines(text: &[u8], row: &mut [u16]) {
 
 fn main() {
     let mut text = io::large_buffer();
-    let mut row = [0u16; 8193];
+    let mut row = [0u16; LINE_WORDS];
     let n = io::read_full(0, &mut text);
     tell_lines(&text[..n], &mut row);
 }

@@ -7,22 +7,23 @@ use native.Mathlib.Omega.{arith}
 use lib.ListN.{getD, set}
 use Rattle.room.specs.Room.{seg, put, Within, seg-zero, seg-more, put-nil, put-one, put-more}
 use Rattle.room.specs.Replaced.{clear, clear-nil, clear-other, clear-not}
+use Rattle.eights.specs.Block.{BLOCK}
 
 module _ (l : List ℕ) where
-  words : (from : ℕ) → Within l from 8
-      → seg l from 8 ≡ getD l from 0 ∷ getD l (from + 1) 0 ∷ getD l (from + 2) 0 ∷ getD l (from + 3) 0 ∷ getD l (from + 4) 0 ∷ getD l (from + 5) 0 ∷ getD l (from + 6) 0 ∷ getD l (from + 7) 0 ∷ []
+  words : (from : ℕ) → Within l from BLOCK
+      → seg l from BLOCK ≡ getD l from 0 ∷ getD l (from + 1) 0 ∷ getD l (from + 2) 0 ∷ getD l (from + 3) 0 ∷ getD l (from + 4) 0 ∷ getD l (from + 5) 0 ∷ getD l (from + 6) 0 ∷ getD l (from + 7) 0 ∷ []
   words from within =
       let start : from + 0 ≡ from = omega arith in
       rw (seg-more l from 7 (omega arith), seg-more l from 6 (omega arith), seg-more l from 5 (omega arith), seg-more l from 4 (omega arith), seg-more l from 3 (omega arith), seg-more l from 2 (omega arith), seg-more l from 1 (omega arith), seg-more l from 0 (omega arith), seg-zero, start)
 
-  module _ (from x to : ℕ) (within : Within l from 8) {r : Bool}
+  module _ (from x to : ℕ) (within : Within l from BLOCK) {r : Bool}
       (told : r ≡ clear x (getD l from 0 ∷ getD l (from + 1) 0 ∷ getD l (from + 2) 0 ∷ getD l (from + 3) 0 ∷ getD l (from + 4) 0 ∷ getD l (from + 5) 0 ∷ getD l (from + 6) 0 ∷ getD l (from + 7) 0 ∷ [])) where
     pub copied : {m : List ℕ} → r ≡ true
         → m ≡ put l to (getD l from 0 ∷ getD l (from + 1) 0 ∷ getD l (from + 2) 0 ∷ getD l (from + 3) 0 ∷ getD l (from + 4) 0 ∷ getD l (from + 5) 0 ∷ getD l (from + 6) 0 ∷ getD l (from + 7) 0 ∷ [])
-        → (true ≡ clear x (seg l from 8)) × (m ≡ put l to (seg l from 8))
+        → (true ≡ clear x (seg l from BLOCK)) × (m ≡ put l to (seg l from BLOCK))
     copied e m = (rw (words from within) (sym e ∙ told), rw (words from within) m)
 
-    pub left : r ≡ false → (false ≡ clear x (seg l from 8)) × (l ≡ put l to [])
+    pub left : r ≡ false → (false ≡ clear x (seg l from BLOCK)) × (l ≡ put l to [])
     left e = (rw (words from within) (sym e ∙ told), rw put-nil)
 
   -- written one by one
@@ -36,7 +37,7 @@ module _ (x a b c d e f g h : ℕ) where
   eight = a ∷ b ∷ c ∷ d ∷ e ∷ f ∷ g ∷ h ∷ []
 
   -- the word at the place i is x
-  pub one-is-x : (i : ℕ) → i < 8 → getD eight i 0 ≡ x → false ≡ clear x eight
+  pub one-is-x : (i : ℕ) → i < BLOCK → getD eight i 0 ≡ x → false ≡ clear x eight
   one-is-x i k q = sym (clear-not x eight i k q)
 
   pub none-is-x : (a ≡ x → ⊥) → (b ≡ x → ⊥) → (c ≡ x → ⊥) → (d ≡ x → ⊥) → (e ≡ x → ⊥) → (f ≡ x → ⊥) → (g ≡ x → ⊥) → (h ≡ x → ⊥) → true ≡ clear x eight

@@ -6,6 +6,10 @@ ghost use lib.ListN.{length};
 ghost use Rattle.room.specs.Room.{seg, put, Within};
 ghost use Rattle.room.specs.Parts.{CopyParts};
 ghost use Rattle.room.specs.Replaced.{clear, before};
+ghost use Rattle.eights.specs.Block.{BLOCK};
+
+// How many words are copied at one go.
+const BLOCK: usize = 8;
 
 // Is x none of the eight?
 fn is_none(x: u16, a: u16, b: u16, c: u16, d: u16, e: u16, f: u16, g: u16, h: u16) -> bool
@@ -51,7 +55,7 @@ fn put_eight(
     g: u16,
     h: u16,
 )
-    requires { ⌜ Within (now room) to 8 ⌝ }
+    requires { ⌜ Within (now room) to BLOCK ⌝ }
     ensures { λ _. ⌜ now (room .exit) ≡ put (now (room .entry)) to (a ∷ b ∷ c ∷ d ∷ e ∷ f ∷ g ∷ h ∷ []) ⌝ }
 {
     room[to] = a;
@@ -67,9 +71,9 @@ fn put_eight(
 // Copies the eight words at `from`, unless one of them is x; answers whether it did. They are read before any is written, so that a machine may take them
 // all at once.
 pub fn copy_eight(room: &mut [u16], from: usize, x: u16, to: usize) -> bool
-    requires { ⌜ CopyParts (now room) from 8 to ⌝ }
-    ensures { λ r. ⌜ r ≡ clear x (seg (now (room .entry)) from 8) ⌝ }
-    ensures { λ r. ⌜ now (room .exit) ≡ put (now (room .entry)) to (cond r (seg (now (room .entry)) from 8) []) ⌝ }
+    requires { ⌜ CopyParts (now room) from BLOCK to ⌝ }
+    ensures { λ r. ⌜ r ≡ clear x (seg (now (room .entry)) from BLOCK) ⌝ }
+    ensures { λ r. ⌜ now (room .exit) ≡ put (now (room .entry)) to (cond r (seg (now (room .entry)) from BLOCK) []) ⌝ }
 {
     let a = room[from];
     let b = room[from + 1];
@@ -94,11 +98,11 @@ pub fn copy_before(room: &mut [u16], from: usize, n: usize, x: u16, to: usize) -
     ensures { λ _. ⌜ now (room .exit) ≡ put (now (room .entry)) to (before x (seg (now (room .entry)) from n)) ⌝ }
 {
     let mut run = 0;
-    while 8 <= n - run {
+    while BLOCK <= n - run {
         if !copy_eight(room, from + run, x, to + run) {
             break;
         }
-        run += 8;
+        run += BLOCK;
     }
     while run < n {
         let w = room[from + run];

@@ -9,7 +9,7 @@ use native.Mathlib.Nat.{zero-add}
 use lib.ListN.{length, take, drop, length-append}
 use lib.Seq.{length-take-le}
 use Rattle.room.specs.Room.{seg, put, put-put, seg-put-same}
-use Rattle.terms.specs.Bounds.{edition-one, edition-one-proper}
+use Rattle.terms.specs.Bounds.{edition-one, edition-one-proper, SYMBOLS, UNKNOWNS}
 use Rattle.checks.specs.Check.{check-question, check-row}
 use Rattle.terms.specs.Formed.{Equation, sides}
 use Rattle.checks.specs.Lent.{Row, Asked, table-worded, good-worded, check-row-ground, check-question-asked, length-sides}
@@ -18,7 +18,7 @@ use Rattle.terms.specs.Reading.{read, top, question-of}
 use Rattle.terms.specs.declared.refusal.Checked.the-variants.{Fine}
 use Rattle.laws.specs.Equal.{equal}
 use Rattle.laws.specs.Values.{in-order, solves-test}
-use Rattle.term_places.specs.Places.{terms-from, held, values, Placed}
+use Rattle.term_places.specs.Places.{terms-from, held, values, Placed, PLACES}
 use Rattle.term_places.specs.Opened.{value-ground}
 use Rattle.holding.specs.Holding.{holding, Equations, WithValues}
 use Rattle.holding.proofs.Asking.{from-first, from-values, holding-solves}
@@ -29,7 +29,7 @@ module _ (arities row : List ℕ) (fine : check-row edition-one arities 2 row �
   two : Row edition-one arities 0 2 row (read edition-one arities row)
   two = check-row-ground edition-one-proper arities 2 row fine .1
 
-  pub two-short : length row ≤ 4096
+  pub two-short : length row ≤ SYMBOLS
   unfolding edition-one
   two-short = two .symbols
 
@@ -79,11 +79,11 @@ module _ (n : ℕ) (arities : List ℕ) (e : ℕ) (words row : List ℕ) (fine :
   given : Row edition-one arities 0 n row (read edition-one arities row)
   given = check-row-ground edition-one-proper arities n row fine-row .1
 
-  pub few-words : length words + length row ≤ 8192
+  pub few-words : length words + length row ≤ PLACES
   unfolding edition-one
   few-words = omega (arith, ap length (asked .worded), asked .good .symbols, given .symbols)
 
-  pub few-unknowns : n ≤ 256
+  pub few-unknowns : n ≤ UNKNOWNS
   unfolding edition-one question-of
   few-unknowns = asked .good .unknowns
 

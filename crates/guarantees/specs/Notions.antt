@@ -4,13 +4,15 @@ use Prim.Native.Nat.{ℕ, _+_, _*_, _≤_, max}
 use mathlib.Core.Path.{_≡_}
 use mathlib.Core.List.{List, [], _∷_, _++_}
 use lib.ListN.{length, take, drop}
-use Rattle.terms.specs.Bounds.{edition-one}
+use Rattle.room.specs.Layout.{HEADER, SPARE-ROWS}
+use Rattle.terms.specs.Bounds.{edition-one, NESTING}
 use Rattle.terms.specs.Lists.{All, Any}
 use Rattle.terms.specs.Term.{Term, nesting}
 use Rattle.terms.specs.Formed.{Question, sides}
 use Rattle.checks.specs.Lent.{Table, Row, Asked}
 use Rattle.laws.specs.Values.{Values, in-order}
 use Rattle.search.specs.Run.{Outcome, ran}
+use Rattle.search.specs.RunLimits.{most-steps, most-depth, most-size}
 use Rattle.answers.specs.Fits.{States}
 use Rattle.text.specs.Text.{question-text}
 use Rattle.reader.specs.LentBuffers.{answer}
@@ -22,11 +24,11 @@ use Rattle.guarantees.specs.Calls.{Posed, asked, Lending, loan-of, quest
 
 -- limits in range, words that ask a good question, a room that is large enough; and the outcome of the published search
 pub record Granted (q : Posed) (l : Lending) (o : Outcome) : Type 0 where
-  pub steps : l .steps ≤ 1000000000
-  pub depth : l .depth ≤ 1024
-  pub size : l .size ≤ 8192
+  pub steps : l .steps ≤ most-steps
+  pub depth : l .depth ≤ most-depth
+  pub size : l .size ≤ most-size
   pub good : Asked edition-one (q .equations) (q .words) (asked q)
-  pub room : (l .depth + 8) * (l .size + 8) ≤ length (l .room)
+  pub room : (l .depth + SPARE-ROWS) * (l .size + HEADER) ≤ length (l .room)
   pub outcome : o ≡ ran edition-one (asked q) (loan-of l)
 
 -- an answer's words state bindings, and no others
@@ -47,7 +49,7 @@ Nests-within most g = All (λ t. nesting t ≤ most) (sides (g .equations))
 -- words that ask a good question of nesting at most 200, and a buffer that holds its text of n bytes
 pub record Writable (q : Posed) (n : ℕ) (buffer : List ℕ) : Type 0 where
   pub good : Asked edition-one (q .equations) (q .words) (asked q)
-  pub nests : Nests-within 200 (asked q)
+  pub nests : Nests-within NESTING (asked q)
   pub long : n ≡ length (question-text (asked q))
   pub fits : n ≤ length buffer
 

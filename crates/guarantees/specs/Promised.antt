@@ -10,7 +10,7 @@ use mathlib.Core.Path.{_≡_}
 use mathlib.Core.List.{List, [], _∷_, _++_, map}
 use mathlib.Core.Logic.{_↔_, _⊎_}
 use lib.ListN.{length, take, drop}
-use Rattle.terms.specs.Bounds.{edition-one}
+use Rattle.terms.specs.Bounds.{edition-one, NESTING, BYTES}
 use Rattle.terms.specs.Lists.{All, Any}
 use Rattle.terms.specs.Term.{Term, Terms, with, functor, more, members, kernel, list, nesting}
 use Rattle.terms.specs.Formed.{Question, Good}
@@ -137,11 +137,11 @@ written-exactly = texts.written-exactly
 
 -- refused with 6 exactly if they ask a good question that nests deeper
 pub too-deep-exactly : (q : Posed) (buffer : List ℕ)
-    → ((r : Refusal) × (question-told q buffer ≡ writing.Refused r) × (number (r .cause) ≡ 6)) ↔ (Asked edition-one (q .equations) (q .words) (asked q) × (Nests-within 200 (asked q) → ⊥))
+    → ((r : Refusal) × (question-told q buffer ≡ writing.Refused r) × (number (r .cause) ≡ 6)) ↔ (Asked edition-one (q .equations) (q .words) (asked q) × (Nests-within NESTING (asked q) → ⊥))
 too-deep-exactly = texts.too-deep-exactly
 
 -- so every good question of nesting at most 200 is written where its text fits, and 32,768 bytes hold it
-pub good-written : (g : Question) → Good edition-one g → Nests-within 200 g → (buffer : List ℕ) → length (question-text g) ≤ length buffer → Writes (in-words g) (question-text g) buffer
+pub good-written : (g : Question) → Good edition-one g → Nests-within NESTING g → (buffer : List ℕ) → length (question-text g) ≤ length buffer → Writes (in-words g) (question-text g) buffer
 good-written = texts.good-written
 
 pub text-fits : (g : Question) → Good edition-one g → length (question-text g) < 32768
@@ -153,7 +153,7 @@ pub written-then-read : (q : Posed) (n : ℕ) (buffer : List ℕ) → question-t
 written-then-read = texts.written-then-read
 
 -- what read_question read of a text of bytes, write_question writes as the same text
-pub read-then-written : (text arities words : List ℕ) (unknowns functors equations count : ℕ) → All (λ b. b < 256) text
+pub read-then-written : (text arities words : List ℕ) (unknowns functors equations count : ℕ) → All (λ b. b < BYTES) text
     → answer (text-told text arities words) ≡ reading.Read unknowns functors equations count → (buffer : List ℕ) → length text ≤ length buffer
     → Writes (question-in (arities-after text arities words) (words-after text arities words) unknowns functors equations count) text buffer
 read-then-written = texts.read-then-written
@@ -165,10 +165,10 @@ set-nests = nests.set-nests
 pub functor-nests : (k : ℕ) (t : Term) (ts : Terms) → nesting (functor k (more t ts)) ≡ suc (largest (map nesting (list (more t ts))))
 functor-nests = nests.functor-nests
 
-pub question-nests : (g : Question) → (too-deep-in edition-one g ≡ all-within) ↔ Nests-within 200 g
+pub question-nests : (g : Question) → (too-deep-in edition-one g ≡ all-within) ↔ Nests-within NESTING g
 question-nests = nests.question-nests
 
-pub answers-nest : (l : List (List Named)) → (too-deep-in-list edition-one l ≡ all-within) ↔ All (All (λ b. nesting (b .value) ≤ 200)) l
+pub answers-nest : (l : List (List Named)) → (too-deep-in-list edition-one l ≡ all-within) ↔ All (All (λ b. nesting (b .value) ≤ NESTING)) l
 answers-nest = nests.answers-nest
 
 -- ---- 7. ground terms

@@ -7,7 +7,7 @@ use mathlib.Core.List.{List, [], _∷_, _++_}
 use borrow.Author.Tests.{ne-eqb}
 use lib.ListN.{length, take, set}
 use lib.Seq.{take-suc-set}
-use Rattle.terms.specs.Bounds.{edition-one}
+use Rattle.terms.specs.Bounds.{edition-one, FUNCTORS, ARITY, UNKNOWNS, EQUATIONS}
 use Rattle.terms.specs.declared.refusal.Cause.the-variants.{Byte, Limit}
 use Rattle.terms.specs.declared.refusal.Refusal.{Refusal}
 use Rattle.text.specs.Keys.{arities-key, edition-key, unknowns-key, equations-key}
@@ -71,7 +71,7 @@ module _ (s : List ℕ) (p : ℕ) where
     unfolding arity-line
     arities-none i = sym (then-read _ e ∙ rw (← k, i))
 
-    pub arities-some : (b ≡ 10 → ⊥) → arity-list 256 8 s q [] ≡ arity-line edition-one s p
+    pub arities-some : (b ≡ 10 → ⊥) → arity-list FUNCTORS ARITY s q [] ≡ arity-line edition-one s p
     unfolding arity-line edition-one
     arities-some i = sym (then-read _ e ∙ rw (← k, ne-eqb b 10 i))
 
@@ -81,31 +81,31 @@ module _ (s : List ℕ) where
   no-edition f e = sym (then-refused _ e)
 
   module _ (p one : ℕ) (e : line edition-key 1 1 s 0 ≡ read p one) where
-    pub no-unknowns : (f : Refusal) → line unknowns-key 0 256 s p ≡ refused f → refused f ≡ header edition-one s
+    pub no-unknowns : (f : Refusal) → line unknowns-key 0 UNKNOWNS s p ≡ refused f → refused f ≡ header edition-one s
     unfolding header edition-one
     no-unknowns f k = sym (then-read _ e ∙ then-refused _ k)
 
-    module _ (q n : ℕ) (k : line unknowns-key 0 256 s p ≡ read q n) where
+    module _ (q n : ℕ) (k : line unknowns-key 0 UNKNOWNS s p ≡ read q n) where
       pub no-arities : (f : Refusal) → arity-line edition-one s q ≡ refused f → refused f ≡ header edition-one s
       unfolding header edition-one
       no-arities f i = sym (then-read _ e ∙ then-read _ k ∙ then-refused _ i)
 
       module _ (r : ℕ) (ns : List ℕ) (i : arity-line edition-one s q ≡ read r ns) where
-        pub no-equations : (f : Refusal) → line equations-key 0 64 s r ≡ refused f → refused f ≡ header edition-one s
+        pub no-equations : (f : Refusal) → line equations-key 0 EQUATIONS s r ≡ refused f → refused f ≡ header edition-one s
         unfolding header edition-one
         no-equations f j = sym (then-read _ e ∙ then-read _ k ∙ then-read _ i ∙ then-refused _ j)
 
-        pub headed : (t m : ℕ) → line equations-key 0 64 s r ≡ read t m → read t (record { unknowns = n; arities = ns; equations = m }) ≡ header edition-one s
+        pub headed : (t m : ℕ) → line equations-key 0 EQUATIONS s r ≡ read t m → read t (record { unknowns = n; arities = ns; equations = m }) ≡ header edition-one s
         unfolding header edition-one
         headed t m j = sym (then-read _ e ∙ then-read _ k ∙ then-read _ i ∙ then-read _ j)
 
 -- ---- a turn of the loop over the arities, of which l holds the first n
 
-module _ (s : List ℕ) (p q a : ℕ) (k : between 0 8 s p ≡ read q a) {b : ℕ} (e : b ≡ byte s q) (l : List ℕ) (n : ℕ) (h : n < 256) (long : length l ≡ 256) where
-  pub arities-turn : b ≡ 44 → arity-list (256 - n) 8 s p (take n l) ≡ arity-list (256 - (n + 1)) 8 s (q + 1) (take (n + 1) (set l n a))
+module _ (s : List ℕ) (p q a : ℕ) (k : between 0 ARITY s p ≡ read q a) {b : ℕ} (e : b ≡ byte s q) (l : List ℕ) (n : ℕ) (h : n < FUNCTORS) (long : length l ≡ FUNCTORS) where
+  pub arities-turn : b ≡ 44 → arity-list (FUNCTORS - n) ARITY s p (take n l) ≡ arity-list (FUNCTORS - (n + 1)) ARITY s (q + 1) (take (n + 1) (set l n a))
   arities-turn i =
-      let z : 256 - (n + 1) ≡ 256 - n - 1 = omega arith in
-      rw (add-one n, take-suc-set l n a (omega arith), ← add-one n, z) (arity-more 8 s p (take n l) q a k e (256 - n) (omega arith) i)
+      let z : FUNCTORS - (n + 1) ≡ FUNCTORS - n - 1 = omega arith in
+      rw (add-one n, take-suc-set l n a (omega arith), ← add-one n, z) (arity-more ARITY s p (take n l) q a k e (FUNCTORS - n) (omega arith) i)
 
-  pub arities-last : (b ≡ 44 → ⊥) → b ≡ 10 → read (q + 1) (take (n + 1) (set l n a)) ≡ arity-list (256 - n) 8 s p (take n l)
-  arities-last j i = rw (add-one n, take-suc-set l n a (omega arith)) (arity-last 8 s p (take n l) q a k e (256 - n) (omega arith) j i)
+  pub arities-last : (b ≡ 44 → ⊥) → b ≡ 10 → read (q + 1) (take (n + 1) (set l n a)) ≡ arity-list (FUNCTORS - n) ARITY s p (take n l)
+  arities-last j i = rw (add-one n, take-suc-set l n a (omega arith)) (arity-last ARITY s p (take n l) q a k e (FUNCTORS - n) (omega arith) j i)

@@ -3,7 +3,7 @@ ghost use mathlib.Core.Path.{_≡_};
 ghost use mathlib.Core.List.{[]};
 ghost use Prim.Native.Nat.{_≤_};
 ghost use lib.ListN.{length};
-ghost use Rattle.terms.specs.Bounds.{edition-one};
+ghost use Rattle.terms.specs.Bounds.{edition-one, FUNCTORS, ARITY};
 ghost use Rattle.numerals.specs.Numbers.{of-numeral};
 ghost use Rattle.term_reader.specs.Terms.{of-got, count-of-got};
 ghost use Rattle.header_reader.specs.HeaderText.{line, arity-list, arity-line, header, of-heading, count-of-heading};
@@ -38,9 +38,9 @@ fn read_line(text: &[u8], at: usize, key: &[u8], low: usize, high: usize) -> Num
 
 // The arities, of which one is due at `at`.
 fn read_numbers(text: &[u8], at: usize, arities: &mut [u8]) -> Got
-    requires { ⌜ length (now arities) ≡ 256 ⌝ }
-    ensures exact { λ r. ⌜ of-got r (now (arities .exit)) ≡ arity-list 256 8 (now (text .entry)) at [] ⌝ }
-    ensures within { λ r. ⌜ count-of-got r ≤ 256 ⌝ }
+    requires { ⌜ length (now arities) ≡ FUNCTORS ⌝ }
+    ensures exact { λ r. ⌜ of-got r (now (arities .exit)) ≡ arity-list FUNCTORS ARITY (now (text .entry)) at [] ⌝ }
+    ensures within { λ r. ⌜ count-of-got r ≤ FUNCTORS ⌝ }
 {
     let mut p = at;
     let mut n = 0;
@@ -75,9 +75,9 @@ fn read_numbers(text: &[u8], at: usize, arities: &mut [u8]) -> Got
 
 // The line of the arities: a number is due after its key unless an LF follows at once.
 fn read_arities(text: &[u8], at: usize, arities: &mut [u8]) -> Got
-    requires { ⌜ length (now arities) ≡ 256 ⌝ }
+    requires { ⌜ length (now arities) ≡ FUNCTORS ⌝ }
     ensures exact { λ r. ⌜ of-got r (now (arities .exit)) ≡ arity-line edition-one (now (text .entry)) at ⌝ }
-    ensures within { λ r. ⌜ count-of-got r ≤ 256 ⌝ }
+    ensures within { λ r. ⌜ count-of-got r ≤ FUNCTORS ⌝ }
 {
     match meet(text, at, &text::ARITIES) {
         Met::At(p) => {
@@ -98,9 +98,9 @@ pub enum Heading {
 
 // The four lines, with the arities at the start of a slice.
 pub fn read_header(text: &[u8], arities: &mut [u8]) -> Heading
-    requires { ⌜ length (now arities) ≡ 256 ⌝ }
+    requires { ⌜ length (now arities) ≡ FUNCTORS ⌝ }
     ensures exact { λ r. ⌜ of-heading r (now (arities .exit)) ≡ header edition-one (now (text .entry)) ⌝ }
-    ensures within { λ r. ⌜ count-of-heading r ≤ 256 ⌝ }
+    ensures within { λ r. ⌜ count-of-heading r ≤ FUNCTORS ⌝ }
 {
     match read_line(text, 0, &text::EDITION, 1, 1) {
         Numeral::Value(_, p) => match read_line(text, p, &text::UNKNOWNS, 0, bounds::UNKNOWNS) {

@@ -12,7 +12,7 @@ use Rattle.terms.specs.Reading.{top}
 use Rattle.terms.specs.Term.{Term}
 use Rattle.laws.specs.Equal.{equal}
 use Rattle.laws.specs.Values.{Values, value}
-use Rattle.term_places.specs.Places.{Held, Placed, terms-from, end, Terms}
+use Rattle.term_places.specs.Places.{Held, Placed, terms-from, end, Terms, PLACES}
 
 -- do the first m equations hold?
 unfoldable pub holding : Values → ℕ → List Term → Bool
@@ -31,14 +31,14 @@ pub record Equations (h : Held) (labels : List ℕ) (m : ℕ) : Type 0 where
   pub placed : Placed h
   pub enough : 2 * m ≤ length (terms-from (h .bounds) (h .arities) (h .words) 0)
   pub long : length labels ≡ length (h .words)
-  pub few : length (h .words) ≤ 8192
+  pub few : length (h .words) ≤ PLACES
 
 -- so many values stand at a place of the words
 pub record Standings (b : Bounds) (arities ws : List ℕ) (p m : ℕ) : Type 0 where
   pub unknowns : ℕ
   pub terms : Terms b arities unknowns ws
   pub enough : m ≤ length (terms-from b arities ws p)
-  pub few : length ws ≤ 8192
+  pub few : length ws ≤ PLACES
 
 -- a question's words and then its values'
 pub record WithValues (b : Bounds) (arities ws : List ℕ) (n from m : ℕ) : Type 0 where
@@ -51,4 +51,4 @@ pub record WithValues (b : Bounds) (arities ws : List ℕ) (n from m : ℕ) : Ty
   pub length-sides : length (row b sides) ≡ from
   pub equations : length sides ≡ 2 * m
   pub unknowns : length values ≡ n
-  pub few : length ws ≤ 8192
+  pub few : length ws ≤ PLACES

@@ -5,7 +5,7 @@ use mathlib.Core.List.{List}
 use borrow.Author.Tests.{lt-ltb, le-ltb, ne-eqb}
 use lib.Dec.{eqb}
 use mathlib.Core.Bool.{true}
-use Rattle.terms.specs.Bounds.{edition-one}
+use Rattle.terms.specs.Bounds.{edition-one, NESTING}
 use Rattle.terms.specs.declared.refusal.Cause.the-variants.{Byte, Arguments, Nesting}
 use Rattle.numerals.specs.TextReading.{read, fault}
 use Rattle.numerals.specs.Bytes.{byte}
@@ -31,13 +31,13 @@ module _ (s : List ℕ) (p : ℕ) {b : ℕ} (e : b ≡ byte s p) where
     unfolding arguments
     arguments-refused h z = rw (← e, h, z)
 
-    pub arguments-open : b ≡ 40 → (a ≡ 0 → ⊥) → depth < 200 → read (p + 1) (due (Argument (a - 1)) ws) ≡ arguments edition-one s depth a p ws
+    pub arguments-open : b ≡ 40 → (a ≡ 0 → ⊥) → depth < NESTING → read (p + 1) (due (Argument (a - 1)) ws) ≡ arguments edition-one s depth a p ws
     unfolding arguments edition-one
-    arguments-open h z d = rw (← e, h, ne-eqb a 0 z, lt-ltb depth 200 d)
+    arguments-open h z d = rw (← e, h, ne-eqb a 0 z, lt-ltb depth NESTING d)
 
-    pub arguments-deep : b ≡ 40 → (a ≡ 0 → ⊥) → 200 ≤ depth → fault Nesting p ≡ arguments edition-one s depth a p ws
+    pub arguments-deep : b ≡ 40 → (a ≡ 0 → ⊥) → NESTING ≤ depth → fault Nesting p ≡ arguments edition-one s depth a p ws
     unfolding arguments edition-one
-    arguments-deep h z d = rw (← e, h, ne-eqb a 0 z, le-ltb depth 200 d)
+    arguments-deep h z d = rw (← e, h, ne-eqb a 0 z, le-ltb depth NESTING d)
 
     pub arguments-none : (b ≡ 40 → ⊥) → a ≡ 0 → read p (done ws) ≡ arguments edition-one s depth a p ws
     unfolding arguments
@@ -70,10 +70,10 @@ module _ (s : List ℕ) (p : ℕ) {b : ℕ} (e : b ≡ byte s (p + 1)) (depth : 
   unfolding a-set
   set-empty h = rw (← e, h)
 
-  pub set-open : (b ≡ 125 → ⊥) → depth < 200 → due-member edition-one s (p + 1) ws ≡ a-set edition-one s depth p ws
+  pub set-open : (b ≡ 125 → ⊥) → depth < NESTING → due-member edition-one s (p + 1) ws ≡ a-set edition-one s depth p ws
   unfolding a-set edition-one
-  set-open h d = rw (← e, ne-eqb b 125 h, lt-ltb depth 200 d)
+  set-open h d = rw (← e, ne-eqb b 125 h, lt-ltb depth NESTING d)
 
-  pub set-deep : (b ≡ 125 → ⊥) → 200 ≤ depth → fault Nesting p ≡ a-set edition-one s depth p ws
+  pub set-deep : (b ≡ 125 → ⊥) → NESTING ≤ depth → fault Nesting p ≡ a-set edition-one s depth p ws
   unfolding a-set edition-one
-  set-deep h d = rw (← e, ne-eqb b 125 h, le-ltb depth 200 d)
+  set-deep h d = rw (← e, ne-eqb b 125 h, le-ltb depth NESTING d)

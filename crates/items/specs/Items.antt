@@ -6,7 +6,7 @@ use mathlib.Core.Bool.{Bool, _||_}
 use mathlib.Core.List.{List, [], _∷_, _++_}
 use lib.Dec.{eqb, ltb}
 use lib.ListN.{length, getD, take}
-use Rattle.terms.specs.Bounds.{Bounds}
+use Rattle.terms.specs.Bounds.{Bounds, SYMBOLS}
 use Rattle.terms.specs.declared.refusal.Cause.the-variants.{Byte, Limit, Undeclared, Arguments, Nesting}
 use Rattle.text.specs.Text.{choose}
 use Rattle.numerals.specs.TextReading.{Reading, read, refused, fault, and-then}
@@ -127,5 +127,5 @@ count-of-next (Refused r) = 0
 
 -- the list l has room for as many words as a question may have, of which n are written
 pub record Room (l : List ℕ) (n : ℕ) : Type 0 where
-  pub long : length l ≡ 4096
-  pub within : n ≤ 4096
+  pub long : length l ≡ SYMBOLS
+  pub within : n ≤ SYMBOLS

@@ -4,7 +4,7 @@ ghost use mathlib.Core.Path.{_≡_};
 ghost use mathlib.Core.List.{List};
 ghost use Prim.Native.Nat.{ℕ, _≤_, _<_};
 ghost use lib.ListN.{length, take};
-ghost use Rattle.terms.specs.Bounds.{edition-one};
+ghost use Rattle.terms.specs.Bounds.{edition-one, SYMBOLS};
 ghost use Rattle.items.specs.Items.{begins, due-member, due-tail, close-empty, after, after-member, after-argument, after-tail, of-next, count-of-next, Room};
 use numerals::bytes;
 use numerals::bytes::peek;
@@ -44,7 +44,7 @@ fn begins_term(b: usize) -> bool
 pub fn open_member(text: &[u8], at: usize, words: &mut [u16], n: usize) -> Next
     requires { ⌜ Room (now words) n ⌝ }
     ensures exact { λ r. ⌜ of-next r (now (words .exit)) ≡ due-member edition-one (now (text .entry)) at (take n (now (words .entry))) ⌝ }
-    ensures within { λ r. ⌜ count-of-next r ≤ 4096 ⌝ }
+    ensures within { λ r. ⌜ count-of-next r ≤ SYMBOLS ⌝ }
 {
     if begins_term(peek(text, at)) {
         if n < bounds::SYMBOLS {
@@ -66,7 +66,7 @@ pub fn open_member(text: &[u8], at: usize, words: &mut [u16], n: usize) -> Next
 pub fn end_empty(text: &[u8], at: usize, words: &mut [u16], n: usize) -> Next
     requires { ⌜ Room (now words) n × (at < length (now text)) ⌝ }
     ensures exact { λ r. ⌜ of-next r (now (words .exit)) ≡ close-empty edition-one at (take n (now (words .entry))) ⌝ }
-    ensures within { λ r. ⌜ count-of-next r ≤ 4096 ⌝ }
+    ensures within { λ r. ⌜ count-of-next r ≤ SYMBOLS ⌝ }
 {
     if n < bounds::SYMBOLS {
         words[n] = bounds::EMPTY;
@@ -96,7 +96,7 @@ fn open_tail(text: &[u8], at: usize, n: usize) -> Next
 fn pass_member(text: &[u8], at: usize, words: &mut [u16], n: usize) -> Next
     requires { ⌜ Room (now words) n ⌝ }
     ensures exact { λ r. ⌜ of-next r (now (words .exit)) ≡ after-member edition-one (now (text .entry)) at (take n (now (words .entry))) ⌝ }
-    ensures within { λ r. ⌜ count-of-next r ≤ 4096 ⌝ }
+    ensures within { λ r. ⌜ count-of-next r ≤ SYMBOLS ⌝ }
 {
     let b = peek(text, at);
     if b == bytes::COMMA {
@@ -162,7 +162,7 @@ fn pass_argument(text: &[u8], at: usize, left: usize, n: usize) -> Next
 pub fn pass(text: &[u8], at: usize, item: Item, words: &mut [u16], n: usize) -> Next
     requires { ⌜ Room (now words) n ⌝ }
     ensures exact { λ r. ⌜ of-next r (now (words .exit)) ≡ after edition-one (now (text .entry)) item at (take n (now (words .entry))) ⌝ }
-    ensures within { λ r. ⌜ count-of-next r ≤ 4096 ⌝ }
+    ensures within { λ r. ⌜ count-of-next r ≤ SYMBOLS ⌝ }
 {
     match item {
         Item::Member => pass_member(text, at, words, n),

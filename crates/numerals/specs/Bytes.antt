@@ -6,6 +6,7 @@ use mathlib.Core.List.{List, [], _∷_}
 use lib.Dec.{eqb}
 use lib.ListN.{length, getD, List·getD-eq-default}
 use Rattle.terms.specs.declared.refusal.Cause.the-variants.{Byte}
+use Rattle.terms.specs.Bounds.{BYTES}
 use Rattle.text.specs.Text.{choose}
 use Rattle.numerals.specs.TextReading.{Reading, read, refused}
 use Rattle.numerals.specs.declared.bytes.Met.{Met}
@@ -40,7 +41,7 @@ abbrev pub line-feed : ℕ
 line-feed = 10
 
 abbrev pub stopped : ℕ
-stopped = 256
+stopped = BYTES
 
 -- the byte at p
 unfoldable pub byte : List ℕ → ℕ → ℕ
@@ -68,16 +69,16 @@ byte-in [] p h = absurd (omega arith)
 byte-in (x ∷ s) zero h = refl
 byte-in (x ∷ s) (suc p) h = byte-in s p (omega arith)
 
-pub byte-out : (s : List ℕ) (p : ℕ) → length s ≤ p → byte s p ≡ 256
+pub byte-out : (s : List ℕ) (p : ℕ) → length s ≤ p → byte s p ≡ stopped
 unfolding byte
-byte-out s p h = List·getD-eq-default s 256 h
+byte-out s p h = List·getD-eq-default s stopped h
 
 -- a byte that is none of 256 is a byte of the text
-pub in-text : (s : List ℕ) (p : ℕ) → byte s p < 256 → p < length s
+pub in-text : (s : List ℕ) (p : ℕ) → byte s p < BYTES → p < length s
 unfolding byte
 in-text [] p h = absurd (omega arith)
 in-text (x ∷ s) zero h = omega arith
 in-text (x ∷ s) (suc p) h = omega (arith, in-text s p h)
 
-pub found : (s : List ℕ) (p : ℕ) {b : ℕ} → b ≡ byte s p → b < 256 → p < length s
+pub found : (s : List ℕ) (p : ℕ) {b : ℕ} → b ≡ byte s p → b < BYTES → p < length s
 found s p e h = in-text s p (rw e at h)

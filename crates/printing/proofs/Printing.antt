@@ -28,7 +28,7 @@ use Rattle.writer.specs.Written.{held, fitted, nested, tested, list-written, te
 use Rattle.results.specs.declared.written.Written.{Written}
 use Rattle.results.specs.declared.written.Written.the-variants.{Length, Refused}
 use Rattle.results.specs.declared.ran.Ending.{Ending}
-use Rattle.printing.specs.Solved.{refused, of-written, of-list, refused-key, place-key, printed, Prints}
+use Rattle.printing.specs.Solved.{OUTPUT, refused, of-written, of-list, refused-key, place-key, printed, Prints}
 
 -- ---- a refusal
 
@@ -86,17 +86,17 @@ module _ (arities : List ℕ) (e : Ending) (words before : List ℕ) where
       (w ≡ list-written edition-one arities n (e .counts .visited) (e .counts .answers) words (length before))
       × (after ≡ held w (text-of-list (end-of n) (e .counts .visited) (answers-of edition-one arities (e .counts .answers) words)) before)
 
-  pub list-printed : {n count : ℕ} {w : Written} {after : List ℕ} → n ≡ end-number (e .end) → length before ≡ 65536 → Writes n w after → w ≡ Length count
+  pub list-printed : {n count : ℕ} {w : Written} {after : List ℕ} → n ≡ end-number (e .end) → length before ≡ OUTPUT → Writes n w after → w ≡ Length count
       → Prints (printed (of-list arities e words)) count before after
   unfolding printed of-list of-written held list-written
   list-printed {count = count} s l g i =
-      let told : list-written edition-one arities (end-number (e .end)) (e .counts .visited) (e .counts .answers) words 65536 ≡ Length count = rw (s, l) at (sym (g .0) ∙ i) in
-      rw told (record { counts = taken-length _ _ 65536 _ count told; begins = rw (s, i) at (g .1) })
+      let told : list-written edition-one arities (end-number (e .end)) (e .counts .visited) (e .counts .answers) words OUTPUT ≡ Length count = rw (s, l) at (sym (g .0) ∙ i) in
+      rw told (record { counts = taken-length _ _ OUTPUT _ count told; begins = rw (s, i) at (g .1) })
 
-  pub list-refused : {n count : ℕ} {w : Written} {r : Refusal} {between after : List ℕ} → n ≡ end-number (e .end) → length before ≡ 65536 → Writes n w between → w ≡ Refused r
+  pub list-refused : {n count : ℕ} {w : Written} {r : Refusal} {between after : List ℕ} → n ≡ end-number (e .end) → length before ≡ OUTPUT → Writes n w between → w ≡ Refused r
       → Prints (printed (refused r)) count between after → Prints (printed (of-list arities e words)) count before after
   unfolding printed of-list of-written held
   list-refused {r = r} {between} s l g i p =
-      let told : list-written edition-one arities (end-number (e .end)) (e .counts .visited) (e .counts .answers) words 65536 ≡ Refused r = rw (s, l) at (sym (g .0) ∙ i) in
+      let told : list-written edition-one arities (end-number (e .end)) (e .counts .visited) (e .counts .answers) words OUTPUT ≡ Refused r = rw (s, l) at (sym (g .0) ∙ i) in
       let same : between ≡ before = rw i at (g .1) in
       rw told (rw same at p)

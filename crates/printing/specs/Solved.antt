@@ -5,12 +5,14 @@ use mathlib.Core.Path.{_≡_}
 use mathlib.Core.List.{List, [], _∷_, _++_}
 use native.Mathlib.Omega.{arith}
 use lib.ListN.{length, drop, length-append}
+use Rattle.room.specs.Layout.{HEADER, SPARE-ROWS}
 use Rattle.terms.specs.Answers.{listed}
-use Rattle.terms.specs.Bounds.{edition-one}
+use Rattle.terms.specs.Bounds.{edition-one, FUNCTORS, SYMBOLS}
 use Rattle.terms.specs.Listing.{answers-of}
 use Rattle.terms.specs.Refusal.{number}
 use Rattle.terms.specs.declared.refusal.Refusal.{Refusal}
 use Rattle.search.specs.Ends.{end-number, end-of}
+use Rattle.text.specs.ListSizes.{LIST-WORDS, LIST-BYTES}
 use Rattle.text.specs.Text.{decimal, line}
 use Rattle.numerals.specs.TextReading.{Reading}
 use Rattle.numerals.specs.TextReading as reading
@@ -23,7 +25,32 @@ use Rattle.results.specs.Loans.{ending}
 use Rattle.results.specs.declared.ran.Ending.{Ending}
 use Rattle.results.specs.Result.{Told, refuses, gives, told}
 
--- what is found: a list's text, or a refusal
+-- ---- what the program lends
+
+abbrev pub STEPS : ℕ
+STEPS = 100000
+
+abbrev pub DEPTH : ℕ
+DEPTH = 96
+
+abbrev pub SIZE : ℕ
+SIZE = 256
+
+-- the answers' words
+abbrev pub ANSWERS : ℕ
+ANSWERS = LIST-WORDS
+
+-- the room's words
+abbrev pub ROOM : ℕ
+ROOM = (DEPTH + SPARE-ROWS) * (SIZE + HEADER)
+
+-- the bytes of the output
+abbrev pub OUTPUT : ℕ
+OUTPUT = LIST-BYTES
+
+-- ---- what is found
+
+-- a list's text, or a refusal
 pub data Found : Type 0 where
   lists : (text : List ℕ) → Found
   refused : Refusal → Found
@@ -35,26 +62,26 @@ unfoldable pub of-written : Written → (text : List ℕ) → Found
 of-written (Length n) text = lists text
 of-written (Refused r) text = refused r
 
--- the list of a run that ended so, in 65,536 bytes
+-- the list of a run that ended so, in the bytes of the output
 unfoldable pub of-list : (arities : List ℕ) → Ending → (words : List ℕ) → Found
 of-list arities e words =
-    of-written (list-written edition-one arities (end-number (e .end)) (e .counts .visited) (e .counts .answers) words 65536)
+    of-written (list-written edition-one arities (end-number (e .end)) (e .counts .visited) (e .counts .answers) words OUTPUT)
     (text-of-list (end-of (end-number (e .end))) (e .counts .visited) (answers-of edition-one arities (e .counts .answers) words))
 
 unfoldable pub of-run : (arities : List ℕ) → Told → Found
 of-run arities (refuses r) = refused r
 of-run arities (gives o) = of-list arities (ending o) (listed (o .answers))
 
--- a question in words, run with what the program lends; the room has (depth + 8) times (size + 8) words
+-- a question in words, run with what the program lends
 unfoldable pub of-words : (unknowns : ℕ) (arities : List ℕ) (equations : ℕ) (words : List ℕ) → Found
-of-words unknowns arities equations words = of-run arities (told unknowns arities equations words 100000 96 256 4096 ((96 + 8) * (256 + 8)))
+of-words unknowns arities equations words = of-run arities (told unknowns arities equations words STEPS DEPTH SIZE ANSWERS ROOM)
 
 unfoldable pub of-reading : Reading Asked → Found
 of-reading (reading.refused r) = refused r
 of-reading (reading.read p q) = of-words (q .head .unknowns) (q .head .arities) (q .head .equations) (q .words)
 
 unfoldable pub found : List ℕ → Found
-found text = of-reading (question-into edition-one 256 4096 text)
+found text = of-reading (question-into edition-one FUNCTORS SYMBOLS text)
 
 -- ---- what is printed
 

@@ -4,7 +4,7 @@
 ghost use mathlib.Core.Path.{_≡_};
 ghost use Prim.Native.Nat.{_≤_};
 ghost use lib.ListN.{length};
-ghost use Rattle.printing.specs.Solved.{Prints, refused, printed, of-list};
+ghost use Rattle.printing.specs.Solved.{OUTPUT, Prints, refused, printed, of-list};
 use lines::line::put_number_line;
 use list_writer::list::write_answers;
 use results::ran::Ending;
@@ -35,7 +35,7 @@ pub fn print_refusal(refusal: Refusal, output: &mut [u8]) -> usize
 
 // The text of a run's answers, or the lines of its writer's refusal.
 pub fn print_list(arities: &[u8], ending: Ending, words: &[u16], output: &mut [u8]) -> usize
-    requires { ⌜ length (now output) ≡ 65536 ⌝ }
+    requires { ⌜ length (now output) ≡ OUTPUT ⌝ }
     ensures { λ r. ⌜ Prints (printed (of-list (now (arities .entry)) ending (now (words .entry)))) r (now (output .entry)) (now (output .exit)) ⌝ }
 {
     let end = ending.end;

@@ -8,7 +8,7 @@ use native.Mathlib.Omega.{arith}
 use lib.ListN.{length, getD}
 use Rattle.room.specs.Parts.{later}
 use Rattle.room.specs.Replaced.{replaced}
-use Rattle.terms.specs.Bounds.{Bounds, Proper}
+use Rattle.terms.specs.Bounds.{Bounds, Proper, FIRST-FUNCTOR, FUNCTOR-WORDS, FUNCTORS, ARITY, EQUATIONS, SYMBOLS, NESTING}
 use Rattle.terms.specs.Lists.{All, Any}
 use Rattle.terms.specs.Term.{Term, words, size, subst, with}
 use Rattle.terms.specs.Formed.{Formed, row, Question, Good}
@@ -35,15 +35,15 @@ unfoldable pub edition-two : Bounds
 edition-two = record {
   first-unknown = 4096;
   unknown-words = 61440;
-  first-functor = 2000;
-  functor-words = 1000;
+  first-functor = FIRST-FUNCTOR;
+  functor-words = FUNCTOR-WORDS;
   unknowns = 1024;
   path-unknowns = 2048;
-  functors = 256;
-  arity = 8;
-  equations = 64;
-  symbols = 4096;
-  nesting = 200;
+  functors = FUNCTORS;
+  arity = ARITY;
+  equations = EQUATIONS;
+  symbols = SYMBOLS;
+  nesting = NESTING;
 }
 
 pub edition-two-proper : Proper edition-two
@@ -64,19 +64,19 @@ one-answer = refl
 
 -- ---- terms
 
-unknown-kind : (i : ℕ) → i < 61440 → kind edition-two (4096 + i) ≡ of-unknown i
+unknown-kind : (i : ℕ) → i < edition-two .unknown-words → kind edition-two (edition-two .first-unknown + i) ≡ of-unknown i
 unfolding edition-two
 unknown-kind = kinds.kind-unknown edition-two-proper
 
-functor-kind : (k : ℕ) → k < 1000 → kind edition-two (2000 + k) ≡ of-functor k
+functor-kind : (k : ℕ) → k < FUNCTOR-WORDS → kind edition-two (FIRST-FUNCTOR + k) ≡ of-functor k
 unfolding edition-two
 functor-kind = kinds.kind-functor edition-two-proper
 
-unknown-takes : (arities : List ℕ) (i : ℕ) → i < 61440 → takes edition-two arities (4096 + i) ≡ 0
+unknown-takes : (arities : List ℕ) (i : ℕ) → i < edition-two .unknown-words → takes edition-two arities (edition-two .first-unknown + i) ≡ 0
 unfolding edition-two
 unknown-takes = kinds.takes-unknown edition-two-proper
 
-functor-takes : (arities : List ℕ) (k : ℕ) → k < 1000 → takes edition-two arities (2000 + k) ≡ getD arities k 0
+functor-takes : (arities : List ℕ) (k : ℕ) → k < FUNCTOR-WORDS → takes edition-two arities (FIRST-FUNCTOR + k) ≡ getD arities k 0
 unfolding edition-two
 functor-takes = kinds.takes-functor edition-two-proper
 
@@ -93,7 +93,7 @@ module _ {arities : List ℕ} {n : ℕ} (worded : Worded edition-two arities n) 
   term-ends : {t : Term} → Formed arities n t → (ws : List ℕ) → span edition-two arities (words edition-two t ++ ws) 1 ≡ size t
   term-ends = walk.term-ends worded
 
-  words-subst : (x : ℕ) → x < 61440 → (s : Term) {t : Term} → Formed arities n t → words edition-two (subst x s t) ≡ replaced (4096 + x) (words edition-two s) (words edition-two t)
+  words-subst : (x : ℕ) → x < edition-two .unknown-words → (s : Term) {t : Term} → Formed arities n t → words edition-two (subst x s t) ≡ replaced (edition-two .first-unknown + x) (words edition-two s) (words edition-two t)
   unfolding edition-two
   words-subst = flat.words-subst worded
 

@@ -5,13 +5,13 @@ use mathlib.Core.Path.{_≡_, refl, sym, ap, _∙_}
 use mathlib.Core.List.{List, [], _∷_}
 use borrow.Author.Tests.{ne-eqb}
 use lib.ListN.{length, getD}
-use Rattle.terms.specs.Bounds.{edition-one}
+use Rattle.terms.specs.Bounds.{edition-one, BYTES, UNKNOWNS}
 use Rattle.terms.specs.Lists.{none, both, all}
 use Rattle.terms.specs.declared.refusal.Cause.the-variants.{Byte}
 use Rattle.terms.specs.declared.refusal.Refusal.{Refusal}
 use Rattle.text.specs.Keys.{left-key, right-key}
 use Rattle.numerals.specs.TextReading.{Reading, read, refused, fault, then-read, then-refused}
-use Rattle.numerals.specs.Bytes.{byte, meets}
+use Rattle.numerals.specs.Bytes.{byte, meets, stopped}
 use Rattle.term_reader.specs.Terms.{whole-term}
 use Rattle.header_reader.specs.HeaderText.{Header, header}
 use Rattle.question_reader.specs.Questions.{side, equation, equations, question}
@@ -62,13 +62,13 @@ module _ (s : List ℕ) (unknowns : ℕ) (arities : List ℕ) where
     equations-stop (suc n) f h e = then-refused _ e
 
     module _ {b : ℕ} (e : b ≡ byte s p) where
-      pub equations-end : (n : ℕ) → n ≡ 0 → b ≡ 256 → equations edition-one s unknowns arities n p ws ≡ read (length s) ws
+      pub equations-end : (n : ℕ) → n ≡ 0 → b ≡ stopped → equations edition-one s unknowns arities n p ws ≡ read (length s) ws
       unfolding equations
       equations-end n z h = rw (z, ← e, h)
 
-      pub equations-left : (n : ℕ) → n ≡ 0 → (b ≡ 256 → ⊥) → equations edition-one s unknowns arities n p ws ≡ fault Byte p
+      pub equations-left : (n : ℕ) → n ≡ 0 → (b ≡ stopped → ⊥) → equations edition-one s unknowns arities n p ws ≡ fault Byte p
       unfolding equations
-      equations-left n z h = rw (z, ← e, ne-eqb b 256 h)
+      equations-left n z h = rw (z, ← e, ne-eqb b stopped h)
 
   -- where a side and an equation end
   module _ (p : ℕ) (ws : List ℕ) (q : ℕ) (vs : List ℕ) (h : p ≤ length s) where
@@ -82,15 +82,15 @@ module _ (s : List ℕ) (unknowns : ℕ) (arities : List ℕ) where
     pub all-read : (n : ℕ) → equations edition-one s unknowns arities n p ws ≡ read q vs → q ≡ length s
     all-read n e = let w = where-on (rw e at (equations-placed edition-one s unknowns arities n p ws h)) in omega (arith, w .0, w .1)
 
-bytes : (key : List ℕ) → ((i : ℕ) → getD key i 0 < 256) → Bytes key
+bytes : (key : List ℕ) → ((i : ℕ) → getD key i 0 < BYTES) → Bytes key
 bytes [] f = none
 bytes (b ∷ key) f = both (f 0) (bytes key (λ i. f (suc i)))
 
-pub key-ends : {A : Type 0} (s key : List ℕ) (p : ℕ) (a : A) (q : ℕ) → ((i : ℕ) → getD key i 0 < 256) → p ≤ length s → meets s key p a ≡ read q a → q ≤ length s
+pub key-ends : {A : Type 0} (s key : List ℕ) (p : ℕ) (a : A) (q : ℕ) → ((i : ℕ) → getD key i 0 < BYTES) → p ≤ length s → meets s key p a ≡ read q a → q ≤ length s
 key-ends s key p a q f h e = where-on (rw e at (key-placed s key p a {P = Any} (bytes key f) h tt)) .1
 
 -- where the header ends, and its count of unknowns
-pub header-ends : (s : List ℕ) (p : ℕ) (h : Header) → header edition-one s ≡ read p h → (p ≤ length s) × (h .unknowns ≤ 256)
+pub header-ends : (s : List ℕ) (p : ℕ) (h : Header) → header edition-one s ≡ read p h → (p ≤ length s) × (h .unknowns ≤ UNKNOWNS)
 unfolding edition-one
 header-ends s p h e = let w = where-on (rw e at (header-placed edition-one s)) in (w .1, w .2 .unknowns)
 

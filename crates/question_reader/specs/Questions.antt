@@ -3,7 +3,7 @@ use Prim.Native.Nat.{ℕ, zero, suc, _≤_}
 use mathlib.Core.List.{List, [], _∷_}
 use lib.Dec.{eqb}
 use lib.ListN.{length, take}
-use Rattle.terms.specs.Bounds.{Bounds}
+use Rattle.terms.specs.Bounds.{Bounds, FUNCTORS, SYMBOLS}
 use Rattle.terms.specs.declared.refusal.Cause.the-variants.{Byte}
 use Rattle.text.specs.Keys.{left-key, right-key}
 use Rattle.text.specs.Text.{choose}
@@ -45,5 +45,5 @@ of-question len (Refused r) ns ws = refused r
 
 -- the counts of the code's answer are within the arrays that it reads into
 abbrev pub Counts : Question → Type 0
-Counts (Read n k e m) = (k ≤ 256) × (m ≤ 4096)
+Counts (Read n k e m) = (k ≤ FUNCTORS) × (m ≤ SYMBOLS)
 Counts (Refused r) = Unit {0}

@@ -7,21 +7,21 @@ use mathlib.Core.List.{List, [], _∷_, _++_}
 use borrow.Author.Tests.{ltb-true}
 use lib.Dec.{eqb, ltb}
 use lib.ListN.{length}
-use Rattle.terms.specs.Bounds.{Bounds}
+use Rattle.terms.specs.Bounds.{Bounds, BYTES}
 use Rattle.terms.specs.Lists.{All, all, all→, All-map, cases}
 use Rattle.terms.specs.declared.refusal.Cause.the-variants.{Byte, Limit}
 use Rattle.text.specs.Keys.{edition-key, unknowns-key, arities-key, equations-key, left-key, right-key}
-use Rattle.numerals.specs.Bytes.{byte}
+use Rattle.numerals.specs.Bytes.{byte, stopped}
 use Rattle.term_reader.specs.Terms.{whole-term}
 use Rattle.header_reader.specs.HeaderText.{line, arity-list, arity-line, Header, header}
 use Rattle.question_reader.specs.Questions.{side, equation, equations, question}
 use Rattle.term_reader.specs.ReadingPlaces.{Placed, goes-on, stops, sooner, onward, Any, there, key-placed, between-placed, term-placed}
 
 abbrev pub Bytes : List ℕ → Type 0
-Bytes key = All (λ b. b < 256) key
+Bytes key = All (λ b. b < BYTES) key
 
-pub literal : (key : List ℕ) → all (λ b. ltb b 256) key ≡ true → Bytes key
-literal key e = All-map (λ b t. ltb-true b 256 t) (all→ (λ b. ltb b 256) key e)
+pub literal : (key : List ℕ) → all (λ b. ltb b BYTES) key ≡ true → Bytes key
+literal key e = All-map (λ b t. ltb-true b BYTES t) (all→ (λ b. ltb b BYTES) key e)
 
 pub line-placed : (key : List ℕ) (low high : ℕ) (s : List ℕ) (p : ℕ) → Bytes key → p ≤ length s → Placed s p (λ v. v ≤ high) (line key low high s p)
 unfolding line all
@@ -84,7 +84,7 @@ module _ (b : Bounds) (s : List ℕ) (unknowns : ℕ) (arities : List ℕ) where
   pub equations-placed : (n p : ℕ) (ws : List ℕ) → p ≤ length s → Placed s (length s) Any (equations b s unknowns arities n p ws)
   unfolding equations
   equations-placed zero p ws h =
-      cases (eqb (byte s p) 256) (λ t. rw t (goes-on (length s) (omega arith) (omega arith) tt)) (λ t. rw t (stops Byte p refl h))
+      cases (eqb (byte s p) stopped) (λ t. rw t (goes-on (length s) (omega arith) (omega arith) tt)) (λ t. rw t (stops Byte p refl h))
   equations-placed (suc n) p ws h = onward _ (equation-placed p ws h) (λ q vs l i x. equations-placed n q vs i)
 
 -- every text is read to its end, or refused with one of the first six numbers and at a place that is at most its length

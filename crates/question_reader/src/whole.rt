@@ -3,7 +3,7 @@ ghost use mathlib.Core.Path.{_≡_};
 ghost use mathlib.Core.List.{[]};
 ghost use Prim.Native.Nat.{_≤_};
 ghost use lib.ListN.{length, take};
-ghost use Rattle.terms.specs.Bounds.{edition-one};
+ghost use Rattle.terms.specs.Bounds.{edition-one, UNKNOWNS, FUNCTORS, SYMBOLS};
 ghost use Rattle.items.specs.Items.{Room};
 ghost use Rattle.term_reader.specs.Terms.{of-got, count-of-got};
 ghost use Rattle.question_reader.specs.Questions.{side, equation, equations, question, of-question, Counts};
@@ -29,9 +29,9 @@ fn read_side(
     words: &mut [u16],
     n: usize,
 ) -> Got
-    requires { ⌜ Room (now words) n × (at ≤ length (now text)) × (unknowns ≤ 256) × (length (now arities) ≤ 256) ⌝ }
+    requires { ⌜ Room (now words) n × (at ≤ length (now text)) × (unknowns ≤ UNKNOWNS) × (length (now arities) ≤ FUNCTORS) ⌝ }
     ensures exact { λ r. ⌜ of-got r (now (words .exit)) ≡ side edition-one (now (text .entry)) unknowns (now (arities .entry)) (now (key .entry)) at (take n (now (words .entry))) ⌝ }
-    ensures within { λ r. ⌜ count-of-got r ≤ 4096 ⌝ }
+    ensures within { λ r. ⌜ count-of-got r ≤ SYMBOLS ⌝ }
 {
     match meet(text, at, key) {
         Met::At(p) => match read_term(text, p, unknowns, arities, 0, words, n) {
@@ -54,9 +54,9 @@ fn read_equation(
     words: &mut [u16],
     n: usize,
 ) -> Got
-    requires { ⌜ Room (now words) n × (at ≤ length (now text)) × (unknowns ≤ 256) × (length (now arities) ≤ 256) ⌝ }
+    requires { ⌜ Room (now words) n × (at ≤ length (now text)) × (unknowns ≤ UNKNOWNS) × (length (now arities) ≤ FUNCTORS) ⌝ }
     ensures exact { λ r. ⌜ of-got r (now (words .exit)) ≡ equation edition-one (now (text .entry)) unknowns (now (arities .entry)) at (take n (now (words .entry))) ⌝ }
-    ensures within { λ r. ⌜ count-of-got r ≤ 4096 ⌝ }
+    ensures within { λ r. ⌜ count-of-got r ≤ SYMBOLS ⌝ }
 {
     match read_side(text, at, &text::LEFT, unknowns, arities, words, n) {
         Got::Read(p, m) => read_side(text, p, &text::RIGHT, unknowns, arities, words, m),
@@ -73,9 +73,9 @@ fn read_equations(
     arities: &[u8],
     words: &mut [u16],
 ) -> Got
-    requires { ⌜ (length (now words) ≡ 4096) × (at ≤ length (now text)) × (unknowns ≤ 256) × (length (now arities) ≤ 256) ⌝ }
+    requires { ⌜ (length (now words) ≡ SYMBOLS) × (at ≤ length (now text)) × (unknowns ≤ UNKNOWNS) × (length (now arities) ≤ FUNCTORS) ⌝ }
     ensures exact { λ r. ⌜ of-got r (now (words .exit)) ≡ equations edition-one (now (text .entry)) unknowns (now (arities .entry)) count at [] ⌝ }
-    ensures within { λ r. ⌜ count-of-got r ≤ 4096 ⌝ }
+    ensures within { λ r. ⌜ count-of-got r ≤ SYMBOLS ⌝ }
 {
     let mut left = count;
     let mut p = at;
@@ -103,7 +103,7 @@ fn read_equations(
 
 // The whole text, with its arities and its words at the start of a slice each.
 pub fn read_whole(text: &[u8], table: &mut [u8], held: &mut [u16]) -> Question
-    requires { ⌜ (length (now table) ≡ 256) × (length (now held) ≡ 4096) ⌝ }
+    requires { ⌜ (length (now table) ≡ FUNCTORS) × (length (now held) ≡ SYMBOLS) ⌝ }
     ensures exact { λ r. ⌜ of-question (length (now (text .entry))) r (now (table .exit)) (now (held .exit)) ≡ question edition-one (now (text .entry)) ⌝ }
     ensures within { λ r. ⌜ Counts r ⌝ }
 {

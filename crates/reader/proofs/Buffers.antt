@@ -6,7 +6,7 @@ use mathlib.Core.List.{List, _++_}
 use borrow.Author.Tests.{lt-ltb, le-ltb}
 use lib.ListN.{length, take, drop}
 use lib.Seq.{length-take-le}
-use Rattle.terms.specs.Bounds.{Bounds, edition-one}
+use Rattle.terms.specs.Bounds.{Bounds, edition-one, FUNCTORS, SYMBOLS}
 use Rattle.terms.specs.declared.refusal.Cause.the-variants.{Buffer}
 use Rattle.terms.specs.declared.refusal.Refusal.{Refusal}
 use Rattle.numerals.specs.TextReading.{read, refused, then-read, then-refused}
@@ -48,11 +48,11 @@ module _ (b : Bounds) (s ns ws : List ℕ) where
 
 -- ---- as the code has it: the text was read into a table and a row of words, whose first parts are laid out
 
-pub counts : {r : Question} → Counts r → (u k n m : ℕ) → r ≡ Read u k n m → (k ≤ 256) × (m ≤ 4096)
+pub counts : {r : Question} → Counts r → (u k n m : ℕ) → r ≡ Read u k n m → (k ≤ FUNCTORS) × (m ≤ SYMBOLS)
 counts C u k n m i = rw i at C
 
 module _ (s ns ws table held : List ℕ) {r : Question} (e : of-question (length s) r table held ≡ question edition-one s)
-    (long : length table ≡ 256) (wide : length held ≡ 4096) where
+    (long : length table ≡ FUNCTORS) (wide : length held ≡ SYMBOLS) where
   pub whole-refused : (f : Refusal) → r ≡ Refused f → Gives edition-one s ns ws (Refused f) ns ws
   whole-refused f i = gives-refusal edition-one s ns ws f (sym e ∙ ap (λ (r : Question). of-question (length s) r table held) i)
 

@@ -11,7 +11,7 @@ use Rattle.terms.specs.Lists.{All, none, both, cases}
 use Rattle.text.specs.Text.{decimal}
 use Rattle.text.specs.Decimal.{last-digit, by-digits, decimal-digit, decimal-more, decimal-bytes, decimal-length}
 use Rattle.numerals.specs.TextReading.{read, then-read}
-use Rattle.numerals.specs.Bytes.{byte}
+use Rattle.numerals.specs.Bytes.{byte, stopped}
 use Rattle.numerals.specs.Numbers.{digit, digits, number, between, digit-below, digit-value, digit-above}
 use Rattle.roundtrip.specs.Suffix.{first-byte, after-byte, no-byte}
 
@@ -25,7 +25,7 @@ abbrev pub Digits : List ℕ → Type 0
 Digits ds = All (λ b. (48 ≤ b) × (b < 58)) ds
 
 pub no-digit : (s : List ℕ) (p : ℕ) (r : List ℕ) → Ends r → drop p s ≡ r → digit (byte s p) ≡ 10
-no-digit s p [] stops e = rw (no-byte s p e) (digit-above 256 (omega arith))
+no-digit s p [] stops e = rw (no-byte s p e) (digit-above stopped (omega arith))
 no-digit s p (b ∷ r) (other h) e = rw (first-byte s p b r e) (digit-above b h)
 no-digit s p (b ∷ r) (early h) e = rw (first-byte s p b r e) (digit-below b h)
 

@@ -13,7 +13,7 @@ use Rattle.terms.specs.Formed.{Formed, Equation, sides, Question, row, Good}
 use Rattle.text.specs.Keys.{edition-key, unknowns-key, arities-key, equations-key, left-key, right-key}
 use Rattle.text.specs.Text.{decimal, numbers, further-numbers, text, line, equation-lines, question-text}
 use Rattle.numerals.specs.TextReading.{read}
-use Rattle.numerals.specs.Bytes.{byte}
+use Rattle.numerals.specs.Bytes.{byte, stopped}
 use Rattle.term_reader.specs.Terms.{whole-term}
 use Rattle.header_reader.specs.HeaderText.{arity-list, arity-line, Header, header}
 use Rattle.header_reader.specs.HeaderText as header
@@ -128,7 +128,7 @@ module _ (s : List ℕ) where
 
 -- ---- the equations, and the whole
 
-text-end : (s : List ℕ) (p : ℕ) → Bytes s → byte s p ≡ 256 → drop p s ≡ []
+text-end : (s : List ℕ) (p : ℕ) → Bytes s → byte s p ≡ stopped → drop p s ≡ []
 unfolding byte
 text-end [] zero h e = refl
 text-end [] (suc p) h e = refl
@@ -181,8 +181,8 @@ module _ (b : Bounds) (s : List ℕ) (n : ℕ) (arities : List ℕ) where
   equations-hold : (m p : ℕ) (ws : List ℕ) → Bytes s → length ws ≤ b .symbols → Holds (Rest m p ws) (equations b s n arities m p ws)
   unfolding equations equation-lines sides row
   equations-hold zero p ws h k =
-      cases (eqb (byte s p) 256)
-      (λ t. rw t (goes (lines [] refl (text-end s p h (eqb-true (byte s p) 256 t)) (sym (append-nil ws)) none none k)))
+      cases (eqb (byte s p) stopped)
+      (λ t. rw t (goes (lines [] refl (text-end s p h (eqb-true (byte s p) stopped t)) (sym (append-nil ws)) none none k)))
       (λ t. rw t stops)
   equations-hold (suc m) p ws h k =
       holds-then _ (equation-holds p ws) (λ r vs e. holds-map (equations-hold m r vs h (both-few p r ws vs e)) (both-then m p r ws vs e))

@@ -12,6 +12,7 @@ use lib.ListN.{length, drop}
 use lib.Seq.{drop-cons}
 use Rattle.terms.specs.Lists.{All, none, both, cases}
 use Rattle.terms.specs.declared.refusal.Refusal.{Refusal}
+use Rattle.terms.specs.Bounds.{BYTES}
 use Rattle.text.specs.Text.{decimal}
 use Rattle.text.specs.Decimal.{last-digit, decimal-digit, decimal-more}
 use Rattle.numerals.specs.TextReading.{Reading, read, refused, and-then}
@@ -41,18 +42,18 @@ holds-both (goes h) (goes k) = goes (h, k)
 holds-both stops k = stops
 
 -- one byte
-pub one-byte : (s : List ℕ) (p x : ℕ) → byte s p ≡ x → x < 256 → drop p s ≡ x ∷ drop (p + 1) s
+pub one-byte : (s : List ℕ) (p x : ℕ) → byte s p ≡ x → x < BYTES → drop p s ≡ x ∷ drop (p + 1) s
 one-byte s p x e h =
     let i : p < length s = in-text s p (omega arith) in
     rw (drop-cons s p 0 i, ← byte-in s p i, e, add-one p)
 
-pub one-test : (s : List ℕ) (p x : ℕ) → eqb (byte s p) x ≡ true → x < 256 → drop p s ≡ x ∷ drop (p + 1) s
+pub one-test : (s : List ℕ) (p x : ℕ) → eqb (byte s p) x ≡ true → x < BYTES → drop p s ≡ x ∷ drop (p + 1) s
 one-test s p x e h = one-byte s p x (eqb-true (byte s p) x e) h
 
 pub join : (s w v : List ℕ) (p q r : ℕ) → drop p s ≡ w ++ drop q s → drop q s ≡ v ++ drop r s → drop p s ≡ (w ++ v) ++ drop r s
 join s w v p q r e f = e ∙ ap (λ (l : List ℕ). w ++ l) f ∙ sym (append-assoc w v (drop r s))
 
-pub key-holds : {A : Type 0} (s key : List ℕ) (p : ℕ) (a : A) → All (λ b. b < 256) key → Holds (λ q x. (drop p s ≡ key ++ drop q s) × (x ≡ a)) (meets s key p a)
+pub key-holds : {A : Type 0} (s key : List ℕ) (p : ℕ) (a : A) → All (λ b. b < BYTES) key → Holds (λ q x. (drop p s ≡ key ++ drop q s) × (x ≡ a)) (meets s key p a)
 unfolding meets met
 key-holds s [] p a none = goes (refl, refl)
 key-holds s (b ∷ key) p a (both l ls) =

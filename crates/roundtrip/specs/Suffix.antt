@@ -8,21 +8,21 @@ use borrow.Author.Tests.{eq-eqb}
 use lib.ListN.{length, drop, getD, length-drop}
 use lib.Seq.{getD-drop, drop-drop, drop-append-seam}
 use Rattle.numerals.specs.TextReading.{read}
-use Rattle.numerals.specs.Bytes.{byte, met, meets}
+use Rattle.numerals.specs.Bytes.{byte, met, meets, stopped}
 use Rattle.numerals.specs.declared.bytes.Met.the-variants.{At}
 
 module _ (s : List ℕ) (p : ℕ) where
   pub first-byte : (x : ℕ) (r : List ℕ) → drop p s ≡ x ∷ r → byte s p ≡ x
   unfolding byte
   first-byte x r e =
-      let g : getD (drop p s) 0 256 ≡ getD s (p + 0) 256 = getD-drop p s 0 256 in
+      let g : getD (drop p s) 0 stopped ≡ getD s (p + 0) stopped = getD-drop p s 0 stopped in
       let z : p + 0 ≡ p = omega arith in
       sym (rw z at g) ∙ rw e
 
-  pub no-byte : drop p s ≡ [] → byte s p ≡ 256
+  pub no-byte : drop p s ≡ [] → byte s p ≡ stopped
   unfolding byte
   no-byte e =
-      let g : getD (drop p s) 0 256 ≡ getD s (p + 0) 256 = getD-drop p s 0 256 in
+      let g : getD (drop p s) 0 stopped ≡ getD s (p + 0) stopped = getD-drop p s 0 stopped in
       let z : p + 0 ≡ p = omega arith in
       sym (rw z at g) ∙ rw e
 

@@ -13,13 +13,18 @@ use case_fields::line::first_words;
 use case_lines::answer::Answer;
 use reader::question::read_question;
 use results::read::Question;
+use terms::bounds::FUNCTORS;
+use terms::bounds::SYMBOLS;
+
+// What a room has beside the lent size in each row, and beside the lent depth in rows: `HEADER` and `SPARE_ROWS` of crate `room`, which are the same number.
+const BESIDE: usize = 8;
 
 // How large one limit may be beside the other, so that the room suffices.
 fn limit_beside(other: usize, room: usize) -> usize {
     if other < 65536 {
-        let rows = room / (other + 8);
-        if 8 <= rows {
-            return rows - 8;
+        let rows = room / (other + BESIDE);
+        if BESIDE <= rows {
+            return rows - BESIDE;
         }
     }
     0
@@ -74,8 +79,8 @@ fn run_question(
 }
 
 fn run_text(loan: Loan, text: &[u8], answers: &mut [u16], room: &mut [u16]) -> Answer {
-    let mut arities = [0u8; 256];
-    let mut words = [0u16; 4096];
+    let mut arities = [0u8; FUNCTORS];
+    let mut words = [0u16; SYMBOLS];
     match read_question(text, &mut arities, &mut words) {
         Question::Read(unknowns, functors, equations, count) => run_question(
             loan,

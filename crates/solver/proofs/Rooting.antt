@@ -8,7 +8,7 @@ use lib.ListN.{length, take, drop}
 use Rattle.room.specs.Room.{seg, put, length-put, seg-put-same, take-seg, drop-seg}
 use Rattle.room.specs.Parts.{later, seg-put}
 use Rattle.room.specs.Layout.{HEADER}
-use Rattle.terms.specs.Bounds.{edition-one}
+use Rattle.terms.specs.Bounds.{edition-one, UNKNOWNS}
 use Rattle.terms.specs.Formed.{Question}
 use Rattle.terms.specs.Reading.{question-of}
 use Rattle.terms.specs.Answers.{binding-words, pile-words}
@@ -54,7 +54,7 @@ module _ {unknowns : ℕ} {arities ws : List ℕ} {limits : Limits} {l : List �
   unfolding edition-one
   few = omega (arith, A .good .unknowns)
 
-  pub unknowns-small : unknowns ≤ 256
+  pub unknowns-small : unknowns ≤ UNKNOWNS
   unfolding edition-one question-of
   unknowns-small = A .good .unknowns
 

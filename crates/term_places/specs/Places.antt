@@ -1,10 +1,10 @@
 -- What stands at a place of words that hold terms, with a value for each unknown further on in the same words: the term at a place, where it
 -- ends, the term with the values put in, and the places of a set's members.
-use Prim.Native.Nat.{ℕ, _+_, _<_, _≤_}
+use Prim.Native.Nat.{ℕ, _+_, _*_, _<_, _≤_}
 use mathlib.Core.Path.{_≡_}
 use mathlib.Core.List.{List}
 use lib.ListN.{length, getD, drop}
-use Rattle.terms.specs.Bounds.{Bounds, edition-one}
+use Rattle.terms.specs.Bounds.{Bounds, edition-one, SYMBOLS}
 use Rattle.terms.specs.Kind.{Kind, of-empty, of-member, of-unknown, of-functor, of-nothing, kind, Worded}
 use Rattle.terms.specs.Lists.{All}
 use Rattle.terms.specs.Term.{Term, size, kernel}
@@ -13,6 +13,10 @@ use Rattle.terms.specs.Reading.{read, top}
 use Rattle.laws.specs.Values.{Values, value}
 
 -- ---- words that hold terms
+
+-- the most places that there are: those of a question's words and of its values'
+abbrev pub PLACES : ℕ
+PLACES = 2 * SYMBOLS
 
 -- the terms from a place on, the term at a place, and where it ends
 unfoldable pub terms-from : Bounds → List ℕ → List ℕ → ℕ → List Term

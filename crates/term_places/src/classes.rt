@@ -2,11 +2,12 @@
 ghost use mathlib.Core.Path.{_≡_};
 ghost use Prim.Native.Nat.{_≤_};
 ghost use lib.ListN.{length};
+ghost use Rattle.term_places.specs.Places.{PLACES};
 ghost use Rattle.term_places.specs.Classes.{relabel as relabelling, relabelled, EachItsOwn, Cleared, TellsSettled, BothSettled};
 
 // Each place gets a label of its own.
 pub fn number(labels: &mut [u16])
-    requires { ⌜ length (now labels) ≤ 8192 ⌝ }
+    requires { ⌜ length (now labels) ≤ PLACES ⌝ }
     ensures { λ _. ⌜ EachItsOwn (now (labels .exit)) ⌝ }
 {
     let mut p: usize = 0;
@@ -40,11 +41,14 @@ pub fn join(labels: &mut [u16], old: u16, new: u16)
 // What stands where no rank is known, and where a place is not settled.
 pub const NONE: u16 = 65535;
 
+// The most places that there are: those of a question's words and of its values', twice `bounds::SYMBOLS`.
+pub const PLACES: usize = 8192;
+
 // Room for a number at each place of a question's words and of its values'. The contract has its length alone, which lending it needs.
-pub fn blank() -> [u16; 8192]
-    ensures { λ r. ⌜ 8192 ≡ length r ⌝ }
+pub fn blank() -> [u16; PLACES]
+    ensures { λ r. ⌜ PLACES ≡ length r ⌝ }
 {
-    [0; 8192]
+    [0; PLACES]
 }
 
 pub fn clear(table: &mut [u16])

@@ -4,7 +4,7 @@ use native.Mathlib.Omega.{arith}
 use mathlib.Core.Path.{_≡_, sym, _∙_}
 use mathlib.Core.List.{List}
 use lib.ListN.{length, take}
-use Rattle.terms.specs.Bounds.{edition-one}
+use Rattle.terms.specs.Bounds.{edition-one, NESTING}
 use Rattle.terms.specs.declared.refusal.Refusal.{Refusal}
 use Rattle.numerals.specs.TextReading.{Reading, read, refused, and-then, then-read, then-refused}
 use Rattle.items.specs.Items.{Coming, due, done, beginning, after}
@@ -32,7 +32,7 @@ module _ (s : List ℕ) (unknowns : ℕ) (arities : List ℕ) (depth : ℕ) wher
     abbrev Is-term : Got → List ℕ → ℕ → Type 0
     Is-term g l fuel = of-got g l ≡ term edition-one s unknowns arities fuel depth p ws
 
-    pub begun-due : (i : Item) (q : ℕ) (vs : List ℕ) → p ≤ length s → Begins (read q (due i vs)) → (p < q) × (q ≤ length s) × (depth < 200)
+    pub begun-due : (i : Item) (q : ℕ) (vs : List ℕ) → p ≤ length s → Begins (read q (due i vs)) → (p < q) × (q ≤ length s) × (depth < NESTING)
     unfolding edition-one
     begun-due i q vs h B =
         let w = where-on (rw B at (beginning-placed edition-one s unknowns arities depth p ws h)) in

@@ -8,7 +8,7 @@ use mathlib.Core.List.{List, [], _∷_, _++_}
 use borrow.Author.Tests.{eqb-true, ltb-true, ltb-false}
 use lib.Dec.{eqb, leb, ltb}
 use lib.ListN.{length, getD}
-use Rattle.terms.specs.Bounds.{Bounds}
+use Rattle.terms.specs.Bounds.{Bounds, BYTES}
 use Rattle.terms.specs.Lists.{All, none, both, cases}
 use Rattle.terms.specs.Refusal.{number as table-number}
 use Rattle.terms.specs.declared.refusal.Cause.{Cause}
@@ -45,10 +45,10 @@ module _ {s : List ℕ} {A : Type 0} {P : A → Type 0} {low : ℕ} where
 abbrev pub Any : {A : Type 0} → A → Type 0
 Any a = Unit {0}
 
-pub there : (s : List ℕ) (p b : ℕ) → eqb (byte s p) b ≡ true → b < 256 → p < length s
+pub there : (s : List ℕ) (p b : ℕ) → eqb (byte s p) b ≡ true → b < BYTES → p < length s
 there s p b e h = in-text s p (omega (arith, eqb-true (byte s p) b e))
 
-pub key-placed : {A : Type 0} (s key : List ℕ) (p : ℕ) (a : A) {P : A → Type 0} → All (λ b. b < 256) key → p ≤ length s → P a → Placed s p P (meets s key p a)
+pub key-placed : {A : Type 0} (s key : List ℕ) (p : ℕ) (a : A) {P : A → Type 0} → All (λ b. b < BYTES) key → p ≤ length s → P a → Placed s p P (meets s key p a)
 unfolding meets met
 key-placed s [] p a none h x = goes-on p (omega arith) h x
 key-placed s (b ∷ key) p a (both l ls) h x =

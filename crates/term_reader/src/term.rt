@@ -3,7 +3,7 @@
 ghost use mathlib.Core.Path.{_≡_};
 ghost use Prim.Native.Nat.{ℕ, _+_, _-_, _*_, _≤_, _<_};
 ghost use lib.ListN.{length, take};
-ghost use Rattle.terms.specs.Bounds.{edition-one};
+ghost use Rattle.terms.specs.Bounds.{edition-one, UNKNOWNS, FUNCTORS, SYMBOLS};
 ghost use Rattle.items.specs.Items.{Room};
 ghost use Rattle.term_reader.specs.Terms.{term, list, of-got, count-of-got};
 use beginnings::beginning::begin;
@@ -28,9 +28,9 @@ pub fn read_term(
     words: &mut [u16],
     n: usize,
 ) -> Got
-    requires { ⌜ Room (now words) n × (at ≤ length (now text)) × (unknowns ≤ 256) × (length (now arities) ≤ 256) ⌝ }
+    requires { ⌜ Room (now words) n × (at ≤ length (now text)) × (unknowns ≤ UNKNOWNS) × (length (now arities) ≤ FUNCTORS) ⌝ }
     ensures exact { λ r. ⌜ ((fuel : ℕ) → 2 * (length (now (text .entry)) - at) < fuel → of-got r (now (words .exit)) ≡ term edition-one (now (text .entry)) unknowns (now (arities .entry)) fuel depth at (take n (now (words .entry)))) ⌝ }
-    ensures within { λ r. ⌜ count-of-got r ≤ 4096 ⌝ }
+    ensures within { λ r. ⌜ count-of-got r ≤ SYMBOLS ⌝ }
 {
     match begin(text, at, unknowns, arities, depth, words, n) {
         Next::Due(item, p, m) => read_list(text, p, unknowns, arities, depth + 1, item, words, m),
@@ -50,9 +50,9 @@ fn read_list(
     words: &mut [u16],
     n: usize,
 ) -> Got
-    requires { ⌜ Room (now words) n × (at ≤ length (now text)) × (unknowns ≤ 256) × (length (now arities) ≤ 256) ⌝ }
+    requires { ⌜ Room (now words) n × (at ≤ length (now text)) × (unknowns ≤ UNKNOWNS) × (length (now arities) ≤ FUNCTORS) ⌝ }
     ensures exact { λ r. ⌜ ((fuel : ℕ) → 2 * (length (now (text .entry)) - at) + 1 < fuel → of-got r (now (words .exit)) ≡ list edition-one (now (text .entry)) unknowns (now (arities .entry)) fuel depth first at (take n (now (words .entry)))) ⌝ }
-    ensures within { λ r. ⌜ count-of-got r ≤ 4096 ⌝ }
+    ensures within { λ r. ⌜ count-of-got r ≤ SYMBOLS ⌝ }
 {
     let mut item = first;
     let mut p = at;

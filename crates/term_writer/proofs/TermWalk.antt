@@ -6,7 +6,7 @@ use mathlib.Core.Path.{_≡_, refl, sym, ap, _∙_}
 use mathlib.Core.List.{List, []}
 use lib.ListN.{length, getD, drop, drop-of-length-le}
 use lib.Seq.{drop-cons}
-use Rattle.terms.specs.Bounds.{edition-one}
+use Rattle.terms.specs.Bounds.{edition-one, NESTING}
 use Rattle.word_writer.specs.Pen.{most, Wrote}
 use Rattle.word_writer.specs.OpenBrackets.{Bracket, brackets, Holds}
 use Rattle.word_writer.specs.WordByWord as walk
@@ -43,14 +43,14 @@ deep-is was-deep e = refl
 
 -- what passes over the words that are left passes over the term
 pub record Left (arities words : List ℕ) (from : ℕ) (text₀ : List ℕ) (at : ℕ) (text stack : List ℕ) (depth next p : ℕ) : Type 0 where
-  pub full : length stack ≡ 200
+  pub full : length stack ≡ NESTING
   pub within : depth ≤ length stack
   pub kept : length text ≡ length text₀
   pub short : length text ≤ most
   pub reach : next ≤ most
   pub passes : (r : Passage) (last : List ℕ) → Passed text next (walk.walk edition-one arities p (drop p words) (brackets stack depth)) r last → Passed text₀ at (term-at edition-one arities words from) r last
 
-pub all-left : (arities words : List ℕ) (from : ℕ) (text : List ℕ) (at : ℕ) (stack : List ℕ) → length stack ≡ 200 → length text ≤ most → at ≤ most
+pub all-left : (arities words : List ℕ) (from : ℕ) (text : List ℕ) (at : ℕ) (stack : List ℕ) → length stack ≡ NESTING → length text ≤ most → at ≤ most
     → Left arities words from text at text stack 0 at from
 unfolding term-at brackets
 all-left arities words from text at stack f s r = record { full = f; within = omega arith; kept = refl; short = s; reach = r; passes = λ r last p. p }
@@ -90,7 +90,7 @@ module _ {arities words text₀ text stack : List ℕ} {from at depth next p : �
           none zero z = refl
           none (suc d) z = absurd (omega arith)
 
-      pub left-more : (pen .depth ≡ 0 → ⊥) → length stack′ ≡ 200 → Left arities words from text₀ at text′ stack′ (pen .depth) (pen .at) (p + 1)
+      pub left-more : (pen .depth ≡ 0 → ⊥) → length stack′ ≡ NESTING → Left arities words from text₀ at text′ stack′ (pen .depth) (pen .at) (p + 1)
       unfolding onward brackets
       left-more n g = record {
         full = g;

@@ -21,6 +21,10 @@ pub record Bounds : Type 0 where
   pub symbols : ℕ
   pub nesting : ℕ
 
+-- how many bytes there are; an arity is lent as one
+abbrev pub BYTES : ℕ
+BYTES = 256
+
 -- the numbers of edition 1, under the names that the code has for them
 abbrev pub FIRST-UNKNOWN : ℕ
 FIRST-UNKNOWN = 1000

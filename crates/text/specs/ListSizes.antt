@@ -15,6 +15,13 @@ use Rattle.text.specs.Keys.{edition-key, end-key, visited-key, answers-k
 use Rattle.text.specs.Sizes.{Short, text-length, line-length}
 use Rattle.text.specs.Text.{decimal, text, line}
 
+-- the words of a list, and more bytes than the text of such a list has
+abbrev pub LIST-WORDS : ℕ
+LIST-WORDS = 4096
+
+abbrev pub LIST-BYTES : ℕ
+LIST-BYTES = 65536
+
 module _ (b : Bounds) {arities : List ℕ} {n : ℕ} (short : Short arities n) where
   bindings-length : (xs : List Named) → All (Bound arities n) xs → (length (binding-lines xs) ≤ 14 * length (binding-words b xs)) × (length xs ≤ length (binding-words b xs))
   unfolding binding-lines binding-words
@@ -39,7 +46,7 @@ module _ (b : Bounds) {arities : List ℕ} {n : ℕ} (short : Short arities n) w
         omega arith,
       )
 
-  answers-length : (l : List (List Named)) → All (All (Bound arities n)) l → length (list-words b l) ≤ 4096 → (length (answer-lines l) ≤ 14 * length (list-words b l)) × (length l ≤ length (list-words b l))
+  answers-length : (l : List (List Named)) → All (All (Bound arities n)) l → length (list-words b l) ≤ LIST-WORDS → (length (answer-lines l) ≤ 14 * length (list-words b l)) × (length l ≤ length (list-words b l))
   unfolding answer-lines list-words listed answer-words
   answers-length [] fs h = (omega arith, omega arith)
   answers-length (xs ∷ l) (both f fs) h =
@@ -58,8 +65,8 @@ module _ (b : Bounds) {arities : List ℕ} {n : ℕ} (short : Short arities n) w
       )
 
   -- the program's buffer for the list's text
-  pub list-length : (end : List ℕ) (visited : ℕ) (l : List (List Named)) → All (All (Bound arities n)) l → length (list-words b l) ≤ 4096 → length end ≤ 5 → visited ≤ 1000000000
-      → length (list-text end visited l) < 65536
+  pub list-length : (end : List ℕ) (visited : ℕ) (l : List (List Named)) → All (All (Bound arities n)) l → length (list-words b l) ≤ LIST-WORDS → length end ≤ 5 → visited ≤ 1000000000
+      → length (list-text end visited l) < LIST-BYTES
   unfolding list-text
   list-length end visited l fs h e v =
       let answers = answers-length l fs h in

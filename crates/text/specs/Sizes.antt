@@ -4,7 +4,7 @@ use native.Mathlib.Omega.{arith}
 use mathlib.Core.Path.{_≡_}
 use mathlib.Core.List.{List, [], _∷_, _++_}
 use lib.ListN.{length, length-append}
-use Rattle.terms.specs.Bounds.{Bounds, edition-one}
+use Rattle.terms.specs.Bounds.{Bounds, edition-one, ARITY}
 use Rattle.terms.specs.Flat.{length-words}
 use Rattle.terms.specs.Lists.{All, both}
 use Rattle.terms.specs.Term.{Term, Terms, none, words, size, size*}
@@ -13,12 +13,16 @@ use Rattle.text.specs.Keys.{edition-key, unknowns-key, arities-key, equa
 use Rattle.text.specs.Text.{decimal, numbers, further-numbers, unknown-name, functor-name, text, after-member, arguments, after-argument, line, equation-lines, question-text}
 use Rattle.text.specs.Decimal.{decimal-length}
 
+-- how many numbers have at most three digits
+abbrev pub THREE-DIGITS : ℕ
+THREE-DIGITS = 1000
+
 -- the numbers of a table's functors and of the first n unknowns have at most three digits
 pub record Short (arities : List ℕ) (n : ℕ) : Type 0 where
-  pub functors : length arities ≤ 1000
-  pub unknowns : n ≤ 1000
+  pub functors : length arities ≤ THREE-DIGITS
+  pub unknowns : n ≤ THREE-DIGITS
 
-three : (i : ℕ) → i < 1000 → length (decimal i) ≤ 3
+three : (i : ℕ) → i < THREE-DIGITS → length (decimal i) ≤ 3
 three i h = decimal-length 2 i (omega arith)
 
 module _ {arities : List ℕ} {n : ℕ} (short : Short arities n) where
@@ -81,12 +85,12 @@ equations-length b short (e ∷ es) (both f (both g fs)) =
     )
 
 -- arities of one digit, each with a comma
-further-length : {ns : List ℕ} → All (λ a. a ≤ 8) ns → length (further-numbers ns) ≤ 2 * length ns
+further-length : {ns : List ℕ} → All (λ a. a ≤ ARITY) ns → length (further-numbers ns) ≤ 2 * length ns
 unfolding further-numbers
 further-length All.none = omega arith
 further-length (both {x = a} {xs = ns} h hs) = omega (arith, length-append (decimal a) (further-numbers ns), decimal-length 0 a (omega arith), further-length hs)
 
-numbers-length : {ns : List ℕ} → All (λ a. a ≤ 8) ns → length (numbers ns) ≤ 2 * length ns
+numbers-length : {ns : List ℕ} → All (λ a. a ≤ ARITY) ns → length (numbers ns) ≤ 2 * length ns
 unfolding numbers
 numbers-length All.none = omega arith
 numbers-length (both {x = a} {xs = ns} h hs) = omega (arith, length-append (decimal a) (further-numbers ns), decimal-length 0 a (omega arith), further-length hs)

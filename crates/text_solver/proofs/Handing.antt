@@ -20,7 +20,7 @@ use Rattle.results.specs.Result.{RunGives, Told, refuses, gives, told, result}
 use Rattle.results.specs.declared.ran.Ran.{Ran}
 use Rattle.results.specs.declared.ran.Ran.the-variants.{Ended, Refused}
 use Rattle.guarantees.specs.Promised.{buffer-after}
-use Rattle.printing.specs.Solved.{refused, of-list, of-run, of-words, of-reading}
+use Rattle.printing.specs.Solved.{STEPS, DEPTH, SIZE, refused, of-list, of-run, of-words, of-reading}
 
 within : (xs ys : List ℕ) → length xs ≤ length (xs ++ ys)
 within xs ys = omega (arith, length-append xs ys)
@@ -65,9 +65,9 @@ module _ {ns ns-after ws ws-after : List ℕ} where
 -- ---- from running to writing
 
 module _ (u : ℕ) (arities : List ℕ) (n : ℕ) (ws : List ℕ) {a answers l room : List ℕ} {back : Ran}
-    (g : RunGives (told u arities n ws 100000 96 256 (length a) (length l)) back a answers l room) where
+    (g : RunGives (told u arities n ws STEPS DEPTH SIZE (length a) (length l)) back a answers l room) where
   abbrev told-here : Told
-  told-here = told u arities n ws 100000 96 256 (length a) (length l)
+  told-here = told u arities n ws STEPS DEPTH SIZE (length a) (length l)
 
   -- a run ended: the words that it used are within their buffer, and are its list
   pub run-ended : {e : Ending} → back ≡ Ended e → (e .counts .words ≤ length answers) × (of-run arities told-here ≡ of-list arities e (take (e .counts .words) answers))
@@ -81,7 +81,7 @@ module _ (u : ℕ) (arities : List ℕ) (n : ℕ) (ws : List ℕ) {a answers l r
           let same : e ≡ ending o = cc in
           let held : answers ≡ list ++ drop (length list) a =
           g .begins
-          ∙ buffer-after (record { unknowns = u; arities = arities; equations = n; words = ws }) (record { steps = 100000; depth = 96; size = 256; answers = a; room = l }) o s in
+          ∙ buffer-after (record { unknowns = u; arities = arities; equations = n; words = ws }) (record { steps = STEPS; depth = DEPTH; size = SIZE; answers = a; room = l }) o s in
           rw (same, held) (within list (drop (length list) a), rw (take-append-seam list (drop (length list) a)) refl)
 
   pub run-refused : {r : Refusal} → back ≡ Refused r → of-run arities told-here ≡ refused r

@@ -3,7 +3,7 @@
 // `Solved` of printing's specs/ says what is printed for any input; its `Enough` shows that the sizes here hold what every good question needs.
 ghost use mathlib.Core.Path.{_≡_};
 ghost use lib.ListN.{length};
-ghost use Rattle.printing.specs.Solved.{Prints, printed, of-words, solved};
+ghost use Rattle.printing.specs.Solved.{OUTPUT, Prints, printed, of-words, solved};
 use mensorique::Question;
 use mensorique::Ran;
 use mensorique::read_question;
@@ -21,7 +21,7 @@ const SIZE: usize = 256;
 
 const ANSWERS: usize = 4096;
 
-// (DEPTH + 8) * (SIZE + 8).
+// (DEPTH + SPARE_ROWS) * (SIZE + HEADER), with the constants of `room`.
 const ROOM: usize = 27456;
 
 // The run of a question in words.
@@ -32,7 +32,7 @@ fn solve_words(
     words: &[u16],
     output: &mut [u8],
 ) -> usize
-    requires { ⌜ length (now output) ≡ 65536 ⌝ }
+    requires { ⌜ length (now output) ≡ OUTPUT ⌝ }
     ensures { λ r. ⌜ Prints (printed (of-words unknowns (now (arities .entry)) equations (now (words .entry)))) r (now (output .entry)) (now (output .exit)) ⌝ }
 {
     let mut answers = [0u16; ANSWERS];

@@ -7,6 +7,7 @@ use native.Mathlib.Omega.{arith}
 use borrow.Author.Needs.{needs}
 use borrow.Author.Tests.{not-true, not-false}
 use Rattle.room.proofs.Copying.{Running, none-run, all-run, part-parts, part-runs, part-stays, run-stops, run-goes-on}
+use Rattle.eights.specs.Block.{BLOCK}
 use Rattle.eights.proofs.copy_before.Statement.{statement}
 use Rattle.eights.proofs.copy_before.Tie as tie
 use Rattle.eights.proofs.copy_before.Reads as reads
@@ -58,7 +59,7 @@ add-copy-eight-2 c = search needs
 copy-eight-requires : tie.Need-copy-eight-requires Inv-loop μ-loop Inv-loop2 μ-loop2
 copy-eight-requires c κs =
     let t = c .before in
-    part-parts (t .before .loop .inv) 8 (omega (arith, t .before .loop .inv .copied .count, t .loop-test .taken))
+    part-parts (t .before .loop .inv) BLOCK (omega (arith, t .before .loop .inv .copied .count, t .loop-test .taken))
 
 add-run : tie.Need-add-run Inv-loop μ-loop Inv-loop2 μ-loop2
 add-run c = search needs
@@ -71,7 +72,7 @@ loop-again c =
     let f = c .before .before .before in
     let R = f .before .before .before .loop .inv in
     let e = not-false _ (c .if1 .left) in
-    part-runs R 8 _ (omega (arith, R .copied .count, f .before .before .loop-test .taken)) (sym (f .copy-eight .ensures .0) ∙ e) (rw e at (f .copy-eight .ensures .1))
+    part-runs R BLOCK _ (omega (arith, R .copied .count, f .before .before .loop-test .taken)) (sym (f .copy-eight .ensures .0) ∙ e) (rw e at (f .copy-eight .ensures .1))
 
 loop2-holds : tie.Need-loop2-holds Inv-loop μ-loop Inv-loop2 μ-loop2
 loop2-holds c = λ r₀ R. R

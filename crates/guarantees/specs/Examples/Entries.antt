@@ -5,7 +5,7 @@ use mathlib.Core.List.{List, [], _∷_, _++_}
 use mathlib.Core.Logic.{_⊎_}
 use native.Mathlib.Omega.{arith}
 use lib.ListN.{length, take, replicate}
-use Rattle.terms.specs.Bounds.{edition-one}
+use Rattle.terms.specs.Bounds.{edition-one, BYTES, NESTING}
 use Rattle.terms.specs.Lists.{All, all}
 use Rattle.terms.specs.Term.{unknown, with, empty, functor, none, more as and-more, members, kernel, list, nesting}
 use Rattle.terms.specs.Formed.{sides, Good}
@@ -88,7 +88,7 @@ read-again : Reads whole question (9 ∷ []) (replicate 4 9)
 read-again = Promised.written-then-read question 65 page wrote (9 ∷ []) (replicate 4 9) (omega arith) (omega arith)
 
 -- and written again from there
-bytes : All (λ b. b < 256) whole
+bytes : All (λ b. b < BYTES) whole
 unfolding calling writing-key held all
 bytes = literal whole refl
 
@@ -104,7 +104,7 @@ too-deep : question-told deep page ≡ writing.Refused (record { cause = Nesting
 unfolding calling writing-key
 too-deep = refl
 
-nests-deep : Asked edition-one 1 (replicate 201 1 ++ replicate 203 0) (asked deep) × (Nests-within 200 (asked deep) → ⊥)
+nests-deep : Asked edition-one 1 (replicate 201 1 ++ replicate 203 0) (asked deep) × (Nests-within NESTING (asked deep) → ⊥)
 nests-deep = Promised.too-deep-exactly deep page .0 (_, too-deep, refl)
 
 -- {a|x0} and g({}) nest once
@@ -119,7 +119,7 @@ functor-nests = Promised.functor-nests 3 empty none
 shallow : too-deep-in edition-one (asked question) ≡ all-within
 shallow = Promised.question-nests (asked question) .1 (writable .nests)
 
-answers-shallow : All (All (λ b. nesting (b .value) ≤ 200)) (answers-of edition-one (0 ∷ []) 1 (1 ∷ 0 ∷ 1 ∷ 2000 ∷ 1001 ∷ []))
+answers-shallow : All (All (λ b. nesting (b .value) ≤ NESTING)) (answers-of edition-one (0 ∷ []) 1 (1 ∷ 0 ∷ 1 ∷ 2000 ∷ 1001 ∷ []))
 unfolding calling writing-key
 answers-shallow = Promised.answers-nest (answers-of edition-one (0 ∷ []) 1 (1 ∷ 0 ∷ 1 ∷ 2000 ∷ 1001 ∷ [])) .0 refl
 

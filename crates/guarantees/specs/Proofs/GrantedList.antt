@@ -10,7 +10,7 @@ use lib.Dec.{eqb, ltb}
 use lib.ListN.{length, drop, length-append, length-map}
 use borrow.Author.Tests.{eqb-false, le-ltb}
 use Rattle.room.specs.Room.{put-eq}
-use Rattle.terms.specs.Bounds.{edition-one, edition-one-proper}
+use Rattle.terms.specs.Bounds.{edition-one, edition-one-proper, PATH-UNKNOWNS}
 use Rattle.terms.specs.Lists.{All, none, both, cases}
 use Rattle.terms.specs.Formed.{Question}
 use Rattle.terms.specs.Answers.{Named, answer-words, listed, listed-append}
@@ -80,7 +80,7 @@ scan-within (v ∷ vs) l = go (verdict edition-one l v) refl (judged edition-one
 record Bindings (arities : List ℕ) (answers : List (List ℕ)) : Type 0 where
   each : List (List Named)
   words : map (answer-words edition-one) each ≡ answers
-  formed : All (All (Bound arities 512)) each
+  formed : All (All (Bound arities PATH-UNKNOWNS)) each
 
 bindings-of : {q : Question} {answers : List (List ℕ)} → All (States edition-one q) answers → Bindings (q .arities) answers
 unfolding edition-one

@@ -8,6 +8,7 @@ use native.Mathlib.Omega.{arith}
 use lib.Dec.{ltb}
 use lib.ListN.{length}
 use borrow.Author.Tests.{ltb-false, le-ltb}
+use Rattle.room.specs.Layout.{HEADER, SPARE-ROWS}
 use Rattle.terms.specs.Bounds.{edition-one, edition-one-proper}
 use Rattle.terms.specs.Lists.{cases}
 use Rattle.terms.specs.Formed.{Question}
@@ -56,13 +57,13 @@ granted q l o e =
     found = gives (ran edition-one (asked q) (loan-of l))
 
     tested : Told
-    tested = cond (ltb (length (l .room)) ((l .depth + 8) * (l .size + 8))) (refuses (record { cause = Buffer; place = (l .depth + 8) * (l .size + 8) })) found
+    tested = cond (ltb (length (l .room)) ((l .depth + SPARE-ROWS) * (l .size + HEADER))) (refuses (record { cause = Buffer; place = (l .depth + SPARE-ROWS) * (l .size + HEADER) })) found
 
     asking : l .steps ≤ most-steps → l .depth ≤ most-depth → l .size ≤ most-size → (c : Checked) → check-question edition-one (q .unknowns) (q .arities) (q .equations) (q .words) ≡ c
         → after-check c refuses tested ≡ gives o → Granted q l o
     asking s d z (Refused r) c y = refused-not-given y
     asking s d z Fine c y =
-        cases (ltb (length (l .room)) ((l .depth + 8) * (l .size + 8))) (λ t. refused-not-given (rw t at y))
+        cases (ltb (length (l .room)) ((l .depth + SPARE-ROWS) * (l .size + HEADER))) (λ t. refused-not-given (rw t at y))
         (λ f. let x : found ≡ gives o = rw f at y in record { steps = s; depth = d; size = z; good = asked-exactly q .0 c; room = ltb-false _ _ f; outcome = cc })
 
 grants : (q : Posed) (l : Lending) (o : Outcome) → Granted q l o → run-told q l ≡ gives o

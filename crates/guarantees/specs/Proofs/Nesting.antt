@@ -7,7 +7,7 @@ use mathlib.Core.Logic.{_↔_}
 use native.Mathlib.Omega.{arith}
 use lib.Dec.{ltb}
 use borrow.Author.Tests.{ltb-false, le-ltb}
-use Rattle.terms.specs.Bounds.{edition-one}
+use Rattle.terms.specs.Bounds.{edition-one, NESTING}
 use Rattle.terms.specs.Lists.{All, none, both, cases, All-append, All-front, All-back, All-first, All-rest}
 use Rattle.terms.specs.Term.{Term, Terms, unknown, empty, with, functor, more, members, kernel, list, nesting, inside, bracketed, deepest}
 use Rattle.terms.specs.Term as term
@@ -143,13 +143,13 @@ module _ (most : ℕ) where
       (λ t. let place : first-at p ≡ all-within = rw t at e in impossible (cc))
       (λ f. both (ltb-false most d f) (within-low (p + 1) ds (rw f at e)))
 
-pub question-nests : (g : Question) → (too-deep-in edition-one g ≡ all-within) ↔ Nests-within 200 g
+pub question-nests : (g : Question) → (too-deep-in edition-one g ≡ all-within) ↔ Nests-within NESTING g
 unfolding too-deep-in edition-one
-question-nests g = (λ e. row-nests 200 _ (within-low 200 0 _ e), λ h. low-within 200 0 (row-low 200 h))
+question-nests g = (λ e. row-nests NESTING _ (within-low NESTING 0 _ e), λ h. low-within NESTING 0 (row-low NESTING h))
 
-pub answers-nest : (l : List (List Named)) → (too-deep-in-list edition-one l ≡ all-within) ↔ All (All (λ b. nesting (b .value) ≤ 200)) l
+pub answers-nest : (l : List (List Named)) → (too-deep-in-list edition-one l ≡ all-within) ↔ All (All (λ b. nesting (b .value) ≤ NESTING)) l
 unfolding too-deep-in-list edition-one
-answers-nest l = (λ e. list-nests 200 l (within-low 200 0 _ e), λ h. low-within 200 0 (list-low 200 h))
+answers-nest l = (λ e. list-nests NESTING l (within-low NESTING 0 _ e), λ h. low-within NESTING 0 (list-low NESTING h))
 
 -- ---- the sentence of SPECIFICATION 1.4
 

@@ -8,7 +8,7 @@ use lib.Dec.{ltb}
 use lib.ListN.{length, take, drop}
 use lib.Seq.{take-append-seam}
 use borrow.Author.Tests.{ltb-false, le-ltb}
-use Rattle.terms.specs.Bounds.{edition-one, edition-one-proper}
+use Rattle.terms.specs.Bounds.{edition-one, edition-one-proper, NESTING, BYTES}
 use Rattle.terms.specs.Lists.{All, here, there, cases}
 use Rattle.terms.specs.Formed.{Question, Good}
 use Rattle.checks.specs.Lent.{Asked, question-back}
@@ -96,7 +96,7 @@ deep-by passed all-within room text r e six =
     (λ f. let x : Length (length text) ≡ Refused r = rw f at e in impossible (cc))
 
 pub too-deep-exactly : (q : Posed) (buffer : List ℕ)
-    → ((r : Refusal) × (question-told q buffer ≡ Refused r) × (number (r .cause) ≡ 6)) ↔ (Asked edition-one (q .equations) (q .words) (asked q) × (Nests-within 200 (asked q) → ⊥))
+    → ((r : Refusal) × (question-told q buffer ≡ Refused r) × (number (r .cause) ≡ 6)) ↔ (Asked edition-one (q .equations) (q .words) (asked q) × (Nests-within NESTING (asked q) → ⊥))
 unfolding question-written tested nested
 too-deep-exactly q buffer = (
   λ h.
@@ -106,7 +106,7 @@ too-deep-exactly q buffer = (
       go (too-deep-in edition-one (asked q)) refl h,
 )
   where
-    go : (deep : First) → too-deep-in edition-one (asked q) ≡ deep → Asked edition-one (q .equations) (q .words) (asked q) × (Nests-within 200 (asked q) → ⊥)
+    go : (deep : First) → too-deep-in edition-one (asked q) ≡ deep → Asked edition-one (q .equations) (q .words) (asked q) × (Nests-within NESTING (asked q) → ⊥)
         → (r : Refusal) × (question-told q buffer ≡ Refused r) × (number (r .cause) ≡ 6)
     go all-within e h = absurd (h .1 (question-nests (asked q) .0 e))
     go (first-at p) e h = (record { cause = Nesting; place = p }, rw (asked-exactly q .1 (h .0), e), refl)
@@ -121,7 +121,7 @@ written-after q n buffer e = rw e
 asked-back : (g : Question) → Good edition-one g → asked (in-words g) ≡ g
 asked-back g good = question-back edition-one-proper g good
 
-pub good-written : (g : Question) → Good edition-one g → Nests-within 200 g → (buffer : List ℕ) → length (question-text g) ≤ length buffer → Writes (in-words g) (question-text g) buffer
+pub good-written : (g : Question) → Good edition-one g → Nests-within NESTING g → (buffer : List ℕ) → length (question-text g) ≤ length buffer → Writes (in-words g) (question-text g) buffer
 good-written g good nests buffer fits =
     let same : asked (in-words g) ≡ g = asked-back g good in
     let writable : Writable (in-words g) (length (question-text g)) buffer =
@@ -196,7 +196,7 @@ unfolding edition-one
 writes-back text a (comes-from g good nests same written) buffer fits =
     rw (ap posed same, ← written) (good-written g good nests buffer (rw written fits))
 
-pub read-then-written : (text arities words : List ℕ) (unknowns functors equations count : ℕ) → All (λ b. b < 256) text
+pub read-then-written : (text arities words : List ℕ) (unknowns functors equations count : ℕ) → All (λ b. b < BYTES) text
     → answer (text-told text arities words) ≡ Read unknowns functors equations count → (buffer : List ℕ) → length text ≤ length buffer
     → Writes (question-in (arities-after text arities words) (words-after text arities words) unknowns functors equations count) text buffer
 read-then-written text arities words unknowns functors equations count bytes e buffer fits =

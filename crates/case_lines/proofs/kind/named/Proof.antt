@@ -1,13 +1,17 @@
 use borrow.Author.Needs.{needs}
-use Prim.Native.Nat.{_-_}
+use Prim.Native.Nat.{ℕ, _-_}
 use Rattle.case_lines.proofs.kind.named.Statement.{statement}
 use Rattle.case_lines.proofs.kind.named.Tie as tie
 
 abbrev Inv-loop : tie.InvT-loop
 Inv-loop name i₀ t3 i = Unit {0}
 
+-- how many kinds have a name
+abbrev NAMED : ℕ
+NAMED = 8
+
 abbrev μ-loop : tie.MeasureT-loop
-μ-loop name i₀ t3 i = 8 - i
+μ-loop name i₀ t3 i = NAMED - i
 
 loop-holds : tie.Need-loop-holds Inv-loop μ-loop
 loop-holds c = search needs

@@ -1,6 +1,7 @@
 -- `read_header`: each answer is that of the first line that was refused, or of all four.
 use borrow.Author.Needs.{needs}
 use native.Mathlib.Omega.{arith}
+use Rattle.terms.specs.Bounds.{FUNCTORS}
 use Rattle.term_reader.specs.ReadingAnswers.{is-value, is-unfit, is-read, is-stopped, read-count}
 use Rattle.header_reader.proofs.HeaderLines.{no-edition, no-unknowns, no-arities, no-equations, headed}
 use Rattle.header_reader.proofs.header.read_header.Statement.{statement}
@@ -62,7 +63,7 @@ returns c =
     let u = a .before .before .before in
     let n = u .before .before in
     let p = n .before .before .before in
-    (headed _ _ _ (is-value (p .before .before .read-line .ensures) _ _ (p .p .given .1)) _ _ (is-value (n .read-line2 .ensures) _ _ (u .unknowns .given .1)) _ _ (is-read _ (a .read-arities .ensures .0) _ _ (r .r .given .1)) _ _ (is-value (e .read-line3 .ensures) _ _ (c .before .equations .given .1)), read-count 256 _ _ (r .r .given .1) (a .read-arities .ensures .1))
+    (headed _ _ _ (is-value (p .before .before .read-line .ensures) _ _ (p .p .given .1)) _ _ (is-value (n .read-line2 .ensures) _ _ (u .unknowns .given .1)) _ _ (is-read _ (a .read-arities .ensures .0) _ _ (r .r .given .1)) _ _ (is-value (e .read-line3 .ensures) _ _ (c .before .equations .given .1)), read-count FUNCTORS _ _ (r .r .given .1) (a .read-arities .ensures .1))
 
 same-length-2 : tie.Need-same-length-2
 same-length-2 c = search needs

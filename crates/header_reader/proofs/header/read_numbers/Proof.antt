@@ -5,6 +5,7 @@ use Prim.Native.Nat.{_-_, _≤_}
 use mathlib.Core.Path.{_≡_, refl, sym, _∙_}
 use mathlib.Core.List.{[]}
 use lib.ListN.{length, take, length-set}
+use Rattle.terms.specs.Bounds.{FUNCTORS, ARITY}
 use Rattle.header_reader.specs.HeaderText.{arity-list}
 use Rattle.term_reader.specs.ReadingAnswers.{is-value, is-unfit}
 use Rattle.numerals.specs.Numbers.{between-most}
@@ -14,10 +15,10 @@ use Rattle.header_reader.proofs.header.read_numbers.Statement.{statemen
 use Rattle.header_reader.proofs.header.read_numbers.Tie as tie
 
 abbrev Inv-loop : tie.InvT-loop
-Inv-loop text at arities₀ p₀ n₀ arities p n = (arity-list 256 8 text at [] ≡ arity-list (256 - n) 8 text p (take n arities)) × (n ≤ 256) × (length arities ≡ 256)
+Inv-loop text at arities₀ p₀ n₀ arities p n = (arity-list FUNCTORS ARITY text at [] ≡ arity-list (FUNCTORS - n) ARITY text p (take n arities)) × (n ≤ FUNCTORS) × (length arities ≡ FUNCTORS)
 
 abbrev μ-loop : tie.MeasureT-loop
-μ-loop text at arities₀ p₀ n₀ arities p n = 256 - n
+μ-loop text at arities₀ p₀ n₀ arities p n = FUNCTORS - n
 
 loop-holds : tie.Need-loop-holds Inv-loop μ-loop
 loop-holds c = (refl, omega arith, c .before .before .pre)

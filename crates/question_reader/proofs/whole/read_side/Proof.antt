@@ -3,6 +3,7 @@ use borrow.Author.Needs.{needs}
 use native.Mathlib.Omega.{arith}
 use mathlib.Core.Path.{sym, _∙_}
 use lib.ListN.{take}
+use Rattle.terms.specs.Bounds.{SYMBOLS}
 use Rattle.term_reader.specs.ReadingAnswers.{is-met, is-unmet, read-count}
 use Rattle.term_reader.specs.ReadingAnswers.{term-is-read, term-is-refused}
 use Rattle.question_reader.proofs.EquationSides.{key-ends, side-unmet, side-refused, side-term}
@@ -53,7 +54,7 @@ returns c =
     let t = q .before .before .before .before in
     let p = t .before .before .before in
     let w = take (q .q .given .0 .1 .0) (t .read-term .last .1 .1 .1 .1 .1 .0) in
-    (sym (is-met _ _ _ w (e .meet2 .ensures) _ (c .before .r .given .1)) ∙ side-term _ _ _ _ _ _ _ (is-met _ _ _ _ (p .before .before .meet .ensures) _ (p .p .given .1)) _ w (term-is-read _ _ _ _ _ _ _ (t .read-term .ensures .0) _ _ (q .q .given .1)), read-count 4096 _ _ (q .q .given .1) (t .read-term .ensures .1))
+    (sym (is-met _ _ _ w (e .meet2 .ensures) _ (c .before .r .given .1)) ∙ side-term _ _ _ _ _ _ _ (is-met _ _ _ _ (p .before .before .meet .ensures) _ (p .p .given .1)) _ w (term-is-read _ _ _ _ _ _ _ (t .read-term .ensures .0) _ _ (q .q .given .1)), read-count SYMBOLS _ _ (q .q .given .1) (t .read-term .ensures .1))
 
 same-length-2 : tie.Need-same-length-2
 same-length-2 c = search needs

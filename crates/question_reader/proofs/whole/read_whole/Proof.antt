@@ -3,6 +3,7 @@ use borrow.Author.Needs.{needs}
 use native.Mathlib.Omega.{arith}
 use mathlib.Core.Path.{sym}
 use lib.Seq.{length-take-le}
+use Rattle.terms.specs.Bounds.{FUNCTORS, SYMBOLS}
 use Rattle.term_reader.specs.ReadingAnswers.{is-read, is-stopped, read-count}
 use Rattle.header_reader.proofs.Headings.{is-headed, is-unheaded, heading-count}
 use Rattle.question_reader.proofs.EquationSides.{header-ends, unheaded, unsided, whole-asked}
@@ -18,19 +19,19 @@ enum-known-unknowns c = search needs
 slice-reshare-prefix-read-equations : tie.Need-slice-reshare-prefix-read-equations
 slice-reshare-prefix-read-equations c =
     let h = c .before .before .before .before .before in
-    omega (arith, heading-count 256 _ _ _ _ (c .before .unknowns .given .1) (h .read-header .ensures .1), h .read-header .kept .1 .0, h .before .before .before .before .before .pre .0)
+    omega (arith, heading-count FUNCTORS _ _ _ _ (c .before .unknowns .given .1) (h .read-header .ensures .1), h .read-header .kept .1 .0, h .before .before .before .before .before .pre .0)
 
 slice-aggregate-read-equations : tie.Need-slice-aggregate-read-equations
 slice-aggregate-read-equations c =
     let h = c .before .before .before .before .before .before in
-    sym (length-take-le _ _ (omega (arith, heading-count 256 _ _ _ _ (c .before .before .unknowns .given .1) (h .read-header .ensures .1), h .read-header .kept .1 .0, h .before .before .before .before .before .pre .0)))
+    sym (length-take-le _ _ (omega (arith, heading-count FUNCTORS _ _ _ _ (c .before .before .unknowns .given .1) (h .read-header .ensures .1), h .read-header .kept .1 .0, h .before .before .before .before .before .pre .0)))
 
 read-equations-requires : tie.Need-read-equations-requires
 read-equations-requires c κs =
     let u = c .before .before .before in
     let h = u .before .before .before .before in
     let a = h .before .before .before .before .before in
-    let k = heading-count 256 _ _ _ _ (u .unknowns .given .1) (h .read-header .ensures .1) in
+    let k = heading-count FUNCTORS _ _ _ _ (u .unknowns .given .1) (h .read-header .ensures .1) in
     let w = header-ends _ _ _ (is-headed _ (h .read-header .ensures .0) _ _ _ _ (u .unknowns .given .1)) in
     (a .pre .1, w .0, w .1, omega (arith, length-take-le (u .unknowns .given .0 .1 .0) (h .read-header .last .1 .0) (omega (arith, k, h .read-header .kept .1 .0, a .pre .0)), k))
 
@@ -54,7 +55,7 @@ returns c =
     let r = c .before .before .before .before .before in
     let u = r .before .before .before .before in
     let h = u .before .before .before .before in
-    (whole-asked _ _ _ (is-headed _ (h .read-header .ensures .0) _ _ _ _ (u .unknowns .given .1)) _ _ (is-read _ (r .read-equations .ensures .0) _ _ (c .before .n .given .1)), (heading-count 256 _ _ _ _ (u .unknowns .given .1) (h .read-header .ensures .1), read-count 4096 _ _ (c .before .n .given .1) (r .read-equations .ensures .1)))
+    (whole-asked _ _ _ (is-headed _ (h .read-header .ensures .0) _ _ _ _ (u .unknowns .given .1)) _ _ (is-read _ (r .read-equations .ensures .0) _ _ (c .before .n .given .1)), (heading-count FUNCTORS _ _ _ _ (u .unknowns .given .1) (h .read-header .ensures .1), read-count SYMBOLS _ _ (c .before .n .given .1) (r .read-equations .ensures .1)))
 
 same-length-3 : tie.Need-same-length-3
 same-length-3 c = search needs

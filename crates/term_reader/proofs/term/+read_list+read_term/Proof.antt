@@ -6,6 +6,7 @@ use mathlib.Core.Path.{_≡_, sym, _∙_}
 use mathlib.Core.List.{List}
 use borrow.Author.Needs.{needs}
 use lib.ListN.{length, take}
+use Rattle.terms.specs.Bounds.{SYMBOLS}
 use Rattle.term_reader.specs.declared.term.Got.{Got}
 use Rattle.term_reader.specs.declared.term.Got.the-variants.{Read, Refused}
 use Rattle.term_reader.specs.ReadingAnswers.{is-due, is-done, is-refused, term-is-read, term-is-refused, read-count, due-count, done-count}
@@ -45,7 +46,7 @@ read-term-below t =
     and 3 read-term-kinds.ps (falls 3 read-term-kinds.ps _<_ μ-read-term t) read-term.Pre
 
 abbrev read-list-Inv-loop : read-list-lts.InvT-loop
-read-list-Inv-loop text at unknowns arities depth words₀ n item₀ p₀ m₀ words item p m = ((g : Got) (l : List ℕ) → List-read text unknowns arities depth item p (take m words) g l → List-read text unknowns arities depth item₀ at (take n words₀) g l) × (length words ≡ 4096) × (m ≤ 4096) × (at ≤ p) × (p ≤ length text)
+read-list-Inv-loop text at unknowns arities depth words₀ n item₀ p₀ m₀ words item p m = ((g : Got) (l : List ℕ) → List-read text unknowns arities depth item p (take m words) g l → List-read text unknowns arities depth item₀ at (take n words₀) g l) × (length words ≡ SYMBOLS) × (m ≤ SYMBOLS) × (at ≤ p) × (p ≤ length text)
 
 abbrev read-list-μ-loop : read-list-lts.MeasureT-loop
 read-list-μ-loop text at unknowns arities depth words₀ n item₀ p₀ m₀ words item p m = length text - p
@@ -88,7 +89,7 @@ read-list-pass-requires : (t : ℕ) → read-list-lts.Need-pass-requires (
 read-list-pass-requires t c κs =
     let t = c .before .before .before .before .before .before in
     let l = t .before .before .loop in
-    record { long = t .read-term .kept .1 .1 .1 .1 .1 .0 ∙ l .inv .1; within = read-count 4096 _ _ (c .before .before .q .given .1) (t .read-term .ensures .1) }
+    record { long = t .read-term .kept .1 .1 .1 .1 .1 .0 ∙ l .inv .1; within = read-count SYMBOLS _ _ (c .before .before .q .given .1) (t .read-term .ensures .1) }
 
 read-list-enum-known-i : (t : ℕ) → read-list-lts.Need-enum-known-i (
   read-term-below t,
@@ -125,7 +126,7 @@ read-list-loop-again t c =
     let T = term-is-read _ _ _ _ _ _ _ (t .read-term .ensures .0) _ _ (f .before .before .before .q .given .1) in
     let F = is-due _ (f .pass .ensures .0) _ _ _ (c .before .i .given .1) in
     let w = next-ahead _ _ _ _ _ _ _ _ _ T _ _ (l .inv .4) F in
-    (λ g m L. l .inv .0 g m (list-more _ _ _ _ _ _ _ _ _ T _ _ _ g m (l .inv .4) F L), f .pass .kept .1 .1 .1 .0 ∙ t .read-term .kept .1 .1 .1 .1 .1 .0 ∙ l .inv .1, due-count 4096 _ _ _ (c .before .i .given .1) (f .pass .ensures .1), omega arith, w .1)
+    (λ g m L. l .inv .0 g m (list-more _ _ _ _ _ _ _ _ _ T _ _ _ g m (l .inv .4) F L), f .pass .kept .1 .1 .1 .0 ∙ t .read-term .kept .1 .1 .1 .1 .1 .0 ∙ l .inv .1, due-count SYMBOLS _ _ _ (c .before .i .given .1) (f .pass .ensures .1), omega arith, w .1)
 
 read-list-enum-known-r : (t : ℕ) → read-list-lts.Need-enum-known-r (
   read-term-below t,
@@ -159,7 +160,7 @@ read-list-returns t c =
     let l = t .before .before .loop in
     let T = term-is-read _ _ _ _ _ _ _ (t .read-term .ensures .0) _ _ (f .before .before .before .q .given .1) in
     let F = is-done _ (f .pass .ensures .0) _ _ (c .before .r .given .1) in
-    (l .inv .0 (Read (c .before .r .given .0 .0) (c .before .r .given .0 .1 .0)) (f .pass .last .1 .1 .1 .0) (list-done _ _ _ _ _ _ _ _ _ T _ (c .before .r .given .0 .1 .0) (f .pass .last .1 .1 .1 .0) F), done-count 4096 _ _ (c .before .r .given .1) (f .pass .ensures .1))
+    (l .inv .0 (Read (c .before .r .given .0 .0) (c .before .r .given .0 .1 .0)) (f .pass .last .1 .1 .1 .0) (list-done _ _ _ _ _ _ _ _ _ T _ (c .before .r .given .0 .1 .0) (f .pass .last .1 .1 .1 .0) F), done-count SYMBOLS _ _ (c .before .r .given .1) (f .pass .ensures .1))
 
 read-list-enum-known-r-2 : (t : ℕ) → read-list-lts.Need-enum-known-r-2 (
   read-term-below t,
@@ -265,7 +266,7 @@ read-term-read-list-requires t c κs =
     let g = c .before .before .before .before .before .before in
     let p = g .before .before .before .before .before .pre .1 in
     let w = begun-due _ _ _ _ _ _ _ _ _ (p .1) (is-due _ (g .begin .ensures .0) _ _ _ (c .before .before .item .given .1)) in
-    (omega arith, (record { long = g .begin .kept .1 .1 .1 .1 .1 .0 ∙ p .0 .long; within = due-count 4096 _ _ _ (c .before .before .item .given .1) (g .begin .ensures .1) }, w .1, p .2, p .3))
+    (omega arith, (record { long = g .begin .kept .1 .1 .1 .1 .1 .0 ∙ p .0 .long; within = due-count SYMBOLS _ _ _ (c .before .before .item .given .1) (g .begin .ensures .1) }, w .1, p .2, p .3))
 
 read-term-enum-known-p : (t : ℕ) → read-term-lts.Need-enum-known-p (
   begin-reads.Asked,
@@ -320,7 +321,7 @@ read-term-returns-2 : (t : ℕ) → read-term-lts.Need-returns-2 (
 ) (read-term-at t) read-term.Post
 read-term-returns-2 t c =
     let g = c .before .before .before .before .before in
-    (term-done _ _ _ _ _ _ _ (c .before .p .given .0 .1 .0) (g .begin .last .1 .1 .1 .1 .1 .0) (is-done _ (g .begin .ensures .0) _ _ (c .before .p .given .1)), done-count 4096 _ _ (c .before .p .given .1) (g .begin .ensures .1))
+    (term-done _ _ _ _ _ _ _ (c .before .p .given .0 .1 .0) (g .begin .last .1 .1 .1 .1 .1 .0) (is-done _ (g .begin .ensures .0) _ _ (c .before .p .given .1)), done-count SYMBOLS _ _ (c .before .p .given .1) (g .begin .ensures .1))
 
 read-term-same-length-3 : (t : ℕ) → read-term-lts.Need-same-length-3 (
   begin-reads.Asked,

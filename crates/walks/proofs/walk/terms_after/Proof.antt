@@ -2,7 +2,7 @@
 use mathlib.Core.Path.{sym, _∙_}
 use native.Mathlib.Omega.{arith}
 use lib.ListN.{List·getD-eq-default}
-use Rattle.terms.specs.Bounds.{edition-one}
+use Rattle.terms.specs.Bounds.{edition-one, FIRST-UNKNOWN, UNKNOWN-WORDS}
 use Rattle.terms.specs.Kind.{takes, takes-none, takes-table, within-after}
 use borrow.Author.Needs.{needs}
 use Rattle.walks.proofs.walk.terms_after.Statement.{statement}
@@ -24,12 +24,12 @@ shared-slice-read-result c = search needs
 
 returns-3 : tie.Need-returns-3
 unfolding edition-one
-returns-3 c = sym (takes-table edition-one _ (c .before .before .before .if1 .left) (within-after 1000 1000 _ (omega arith)) (c .before .before .if2 .left))
+returns-3 c = sym (takes-table edition-one _ (c .before .before .before .if1 .left) (within-after FIRST-UNKNOWN UNKNOWN-WORDS _ (omega arith)) (c .before .before .if2 .left))
 
 returns-4 : tie.Need-returns-4
 unfolding edition-one
 returns-4 c =
-    sym (takes-table edition-one _ (c .before .before .if1 .left) (within-after 1000 1000 _ (omega arith)) (c .before .if2 .left)
+    sym (takes-table edition-one _ (c .before .before .if1 .left) (within-after FIRST-UNKNOWN UNKNOWN-WORDS _ (omega arith)) (c .before .if2 .left)
     ∙ List·getD-eq-default (c .before .before .before .args .arities .now) 0 (c .if3 .left))
 
 pub terms-after-spec : {M : Type 1} → statement M
