@@ -7,7 +7,7 @@ use native.Mathlib.Omega.{arith}
 use lib.Dec.{ltb}
 use lib.ListN.{length, getD, drop, length-drop}
 use borrow.Author.Tests.{ltb-true}
-use Rattle.terms.specs.Bounds.{Bounds, Proper}
+use Rattle.terms.specs.Bounds.{Bounds, Proper, MEMBER}
 use Rattle.terms.specs.Kind.{Kind, of-empty, of-member, of-unknown, of-functor, of-nothing, kind, Means, means, means-empty, means-member, means-unknown, means-functor, means-nothing, takes, takes-empty, takes-member, takes-unknown, takes-functor}
 use Rattle.terms.specs.Lists.{All, none, both}
 use Rattle.terms.specs.Term.{Term, Terms, words, words*, count}
@@ -79,7 +79,7 @@ module _ {b : Bounds} (proper : Proper b) (arities : List ℕ) (n w m : ℕ) (ts
         follows = rw e (takes-member proper arities ∙ z);
         one-more = simp length-drop (omega arith);
         formed = both (formed-with (formed-top fs) (formed-top (formed-drop 1 fs))) (formed-drop 2 fs);
-        worded = rw e (ap (λ ws. 1 ∷ ws) (words-two b ts (omega arith)));
+        worded = rw e (ap (λ ws. MEMBER ∷ ws) (words-two b ts (omega arith)));
       }
   by-kind (of-unknown i) (means-unknown e j) f =
       let s = stands-if (ltb i n) (follow.Terms 0) WordsUndeclared f in

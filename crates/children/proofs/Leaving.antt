@@ -6,7 +6,7 @@ use native.Mathlib.Omega.{arith}
 use lib.ListN.{getD}
 use Rattle.room.specs.Room.{getD-seg}
 use Rattle.room.specs.Layout.{HEADER}
-use Rattle.terms.specs.Bounds.{edition-one}
+use Rattle.terms.specs.Bounds.{edition-one, MEMBER}
 use Rattle.terms.specs.Term.{Term, with, words}
 use Rattle.terms.specs.Answers.{Named}
 use Rattle.terms.specs.Formed.{Equation}
@@ -29,11 +29,11 @@ left-member : {t u : Term} {k : Tails} → Stepped t u (Split k) → (m : Term) 
 left-member (splits {m = m} {r = r} tailed) = (m, (r, refl))
 
 -- and its words begin with a mark
-begins-marked : {t m r : Term} (ws : List ℕ) → t ≡ with m r → getD (words edition-one t ++ ws) 0 0 ≡ 1
+begins-marked : {t m r : Term} (ws : List ℕ) → t ≡ with m r → getD (words edition-one t ++ ws) 0 0 ≡ MEMBER
 unfolding words
 begins-marked ws e = rw e
 
-module _ {arities l : List ℕ} {at number lent scratch most : ℕ} {st : State} (R : Ready arities l at number lent scratch most st) (later : 0 < number) (unmarked : getD l (at + HEADER) 0 ≡ 1 → ⊥) where
+module _ {arities l : List ℕ} {at number lent scratch most : ℕ} {st : State} (R : Ready arities l at number lent scratch most st) (later : 0 < number) (unmarked : getD l (at + HEADER) 0 ≡ MEMBER → ⊥) where
   no-split : {e : Equation} {es : List Equation} → st .pending ≡ e ∷ es → (k : Tails) → classify (e .left) (e .right) ≡ Split k → ⊥
   no-split {e} {es} cut k p =
       let v : Stepped (e .left) (e .right) (Split k) = rw p at (stepped (e .left) (e .right)) in

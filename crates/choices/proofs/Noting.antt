@@ -6,7 +6,7 @@ use native.Mathlib.Omega.{arith}
 use lib.ListN.{length, getD, set, length-append}
 use Rattle.room.specs.Room.{seg, put, length-put, put-nil, put-more, seg-zero, seg-cons}
 use Rattle.room.specs.Parts.{apart-part, getD-put}
-use Rattle.terms.specs.Bounds.{edition-one, BYTES}
+use Rattle.terms.specs.Bounds.{edition-one, BYTES, MEMBER}
 use Rattle.terms.specs.Kind.{takes}
 use Rattle.choices.specs.MemberPlaces.{noted, noted-mark, noted-kernel, noted-out, noted-on, NoteParts}
 
@@ -107,14 +107,14 @@ module _ {arities r₀ : List ℕ} {body first end to : ℕ} {r : List ℕ} {pla
     }
 
     module _ (z : due ≡ 0) where
-      pub kernel-noted : (word ≡ 1 → ⊥) → (n + 1 ≡ length (noted edition-one arities (seg r₀ (body + first) (end - first)) 0 first))
+      pub kernel-noted : (word ≡ MEMBER → ⊥) → (n + 1 ≡ length (noted edition-one arities (seg r₀ (body + first) (end - first)) 0 first))
           × (set r (to + n) place ≡ put r₀ to (noted edition-one arities (seg r₀ (body + first) (end - first)) 0 first))
       kernel-noted d =
           let e : noted edition-one arities (seg r₀ (body + first) (end - first)) 0 first ≡ S .done ++ (place ∷ []) =
           S .left ∙ ap (λ (l : List ℕ). S .done ++ l) (rw (next, z) (noted-kernel edition-one arities word rest place d)) in
           rw e (sym (length-next place), noted-next place)
 
-      pub mark-noted : word ≡ 1 → Noting arities r₀ body first end to (set r (to + n) place) (place + 1) 1 (n + 1)
+      pub mark-noted : word ≡ MEMBER → Noting arities r₀ body first end to (set r (to + n) place) (place + 1) 1 (n + 1)
       mark-noted o = record {
         parts = S .parts;
         after = omega (arith, S .after);

@@ -11,7 +11,7 @@ use lib.ListN.{length, take, drop, getD}
 use lib.Seq.{take-at, drop-at}
 use borrow.Author.Tests.{ltb-true}
 use Rattle.room.specs.Room.{seg, seg-cons, take-seg, drop-seg}
-use Rattle.terms.specs.Bounds.{Bounds}
+use Rattle.terms.specs.Bounds.{Bounds, MEMBER}
 use Rattle.terms.specs.Term.{Term, unknown, empty, with, functor, words, size, members}
 use Rattle.terms.specs.Flat.{length-words}
 use Rattle.terms.specs.Formed.{Equation, sides, row}
@@ -70,11 +70,11 @@ module _ (b : Bounds) (l : List ℕ) (body : ℕ) where
   abbrev Stand : Term → ℕ → Type 0
   Stand t p = seg l (body + p) (size t) ≡ words b t
 
-  marked : (m r : Term) (p : ℕ) → Stand (with m r) p → seg l (body + p) (suc (size m)) ≡ 1 ∷ words b m
+  marked : (m r : Term) (p : ℕ) → Stand (with m r) p → seg l (body + p) (suc (size m)) ≡ MEMBER ∷ words b m
   unfolding words size
   marked m r p e =
       sym (take-seg l (body + p) (suc (size m + size r)) (suc (size m)) (omega arith)) ∙ ap (take (suc (size m))) e
-      ∙ take-at (1 ∷ words b m) (words b r) (suc (size m)) (ap suc (length-words b m))
+      ∙ take-at (MEMBER ∷ words b m) (words b r) (suc (size m)) (ap suc (length-words b m))
 
   rest-stands : (m r : Term) (p : ℕ) → Stand (with m r) p → Stand r (p + 1 + size m)
   unfolding words size
@@ -82,7 +82,7 @@ module _ (b : Bounds) (l : List ℕ) (body : ℕ) where
       let place : body + p + suc (size m) ≡ body + (p + 1 + size m) = omega arith in
       let many : suc (size m + size r) - suc (size m) ≡ size r = omega arith in
       rw (place, many) at (sym (drop-seg l (body + p) (suc (size m + size r)) (suc (size m)) (omega arith)) ∙ ap (drop (suc (size m))) e
-      ∙ drop-at (1 ∷ words b m) (words b r) (suc (size m)) (ap suc (length-words b m)))
+      ∙ drop-at (MEMBER ∷ words b m) (words b r) (suc (size m)) (ap suc (length-words b m)))
 
   member-stands : (m r : Term) (p : ℕ) → Stand (with m r) p → seg l (body + (p + 1)) (size m) ≡ words b m
   member-stands m r p e =

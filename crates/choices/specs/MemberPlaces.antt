@@ -10,7 +10,7 @@ use lib.ListN.{length}
 use borrow.Author.Tests.{eq-eqb, ne-eqb}
 use Rattle.room.specs.Room.{Within}
 use Rattle.room.specs.Parts.{Apart}
-use Rattle.terms.specs.Bounds.{Bounds}
+use Rattle.terms.specs.Bounds.{Bounds, MEMBER}
 use Rattle.terms.specs.Kind.{takes, Worded}
 use Rattle.terms.specs.Lists.{All-units}
 use Rattle.terms.specs.Term.{Term, unknown, empty, with, functor, words, words*, size}
@@ -20,7 +20,7 @@ use Rattle.terms.specs.Walk.{past}
 -- so many terms of a member are due, and a place is reached
 unfoldable pub noted : Bounds → List ℕ → List ℕ → (due place : ℕ) → List ℕ
 noted b arities [] due place = place ∷ []
-noted b arities (w ∷ ws) zero place = place ∷ cond (eqb w 1) (noted b arities ws 1 (place + 1)) []
+noted b arities (w ∷ ws) zero place = place ∷ cond (eqb w MEMBER) (noted b arities ws 1 (place + 1)) []
 noted b arities (w ∷ ws) (suc due) place = noted b arities ws (due + takes b arities w) (place + 1)
 
 -- the words that are read, and the places that are written
@@ -33,13 +33,13 @@ pub record NoteParts (l : List ℕ) (body first end to : ℕ) : Type 0 where
   pub small : length l < 2 ^ 32
 
 module _ (b : Bounds) (arities : List ℕ) where
-  pub noted-mark : (w : ℕ) (ws : List ℕ) (place : ℕ) → w ≡ 1 → noted b arities (w ∷ ws) 0 place ≡ place ∷ noted b arities ws 1 (place + 1)
+  pub noted-mark : (w : ℕ) (ws : List ℕ) (place : ℕ) → w ≡ MEMBER → noted b arities (w ∷ ws) 0 place ≡ place ∷ noted b arities ws 1 (place + 1)
   unfolding noted
-  noted-mark w ws place e = rw (eq-eqb w 1 e)
+  noted-mark w ws place e = rw (eq-eqb w MEMBER e)
 
-  pub noted-kernel : (w : ℕ) (ws : List ℕ) (place : ℕ) → (w ≡ 1 → ⊥) → noted b arities (w ∷ ws) 0 place ≡ place ∷ []
+  pub noted-kernel : (w : ℕ) (ws : List ℕ) (place : ℕ) → (w ≡ MEMBER → ⊥) → noted b arities (w ∷ ws) 0 place ≡ place ∷ []
   unfolding noted
-  noted-kernel w ws place e = rw (ne-eqb w 1 e)
+  noted-kernel w ws place e = rw (ne-eqb w MEMBER e)
 
   pub noted-out : (due place : ℕ) → noted b arities [] due place ≡ place ∷ []
   unfolding noted

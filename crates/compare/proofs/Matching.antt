@@ -8,6 +8,7 @@ use mathlib.Core.Logic.{_⊎_, inl, inr}
 use native.Mathlib.Omega.{arith}
 use lib.ListN.{getD}
 use Rattle.terms.specs.Term.{members, size}
+use Rattle.terms.specs.Bounds.{MEMBER}
 use Rattle.laws.specs.Equal.{each-in}
 use Rattle.term_places.specs.Places.{Held, valued, Placed, Known, AtMember, Has, member-of, rest-of}
 use Rattle.term_places.specs.Classes.{Joined, Comparing, Meets, EachMeets}
@@ -40,7 +41,7 @@ matching-start c =
     }
 
 module _ {h : Held} {before labels : List ℕ} {p q x : ℕ} (w : Matching h before labels p q x) where
-  pub matching-end : (getD (h .words) x 0 ≡ 1 → ⊥) → EachMeets h before labels p q true
+  pub matching-end : (getD (h .words) x 0 ≡ MEMBER → ⊥) → EachMeets h before labels p q true
   matching-end n =
       record {
         told = told-since (w .since) (sym (w .so-far ∙ each-in-closed (closed (w .placed) x (w .at) n) (members (valued h q))));
@@ -51,7 +52,7 @@ module _ {h : Held} {before labels : List ℕ} {p q x : ℕ} (w : Matching h bef
       go z (inl j) = j
       go z (inr l) = has-closed n l
 
-  module _ (e : getD (h .words) x 0 ≡ 1) where
+  module _ (e : getD (h .words) x 0 ≡ MEMBER) where
     pub matching-opened : Opened h x
     matching-opened = opened (w .placed) x (w .at .inside) e
 

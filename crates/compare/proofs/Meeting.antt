@@ -8,6 +8,7 @@ use mathlib.Core.Logic.{_⊎_, inl, inr}
 use native.Mathlib.Omega.{arith}
 use lib.ListN.{length, getD}
 use Rattle.terms.specs.Term.{members, size}
+use Rattle.terms.specs.Bounds.{MEMBER}
 use Rattle.laws.specs.Equal.{equal, is-in}
 use Rattle.term_places.specs.Places.{Held, valued, Placed, Known, AtMember, Has, first, later, member-of, rest-of}
 use Rattle.term_places.specs.Classes.{Comparing, Same, Meets}
@@ -49,7 +50,7 @@ or-true true = refl
 or-true false = refl
 
 module _ {h : Held} {before labels : List ℕ} {m q y : ℕ} {met : Bool} (w : Meeting h before labels m q y met) where
-  pub meeting-end : (getD (h .words) y 0 ≡ 1 → ⊥) → Meets h before labels m q met
+  pub meeting-end : (getD (h .words) y 0 ≡ MEMBER → ⊥) → Meets h before labels m q met
   meeting-end n =
       let e = is-in-closed (closed (w .placed) y (w .at) n) (valued h m) in
       record {
@@ -61,7 +62,7 @@ module _ {h : Held} {before labels : List ℕ} {m q y : ℕ} {met : Bool} (w : M
       go z (inl e) = e
       go z (inr l) = has-closed n l
 
-  module _ (e : getD (h .words) y 0 ≡ 1) where
+  module _ (e : getD (h .words) y 0 ≡ MEMBER) where
     pub meeting-opened : Opened h y
     meeting-opened = opened (w .placed) y (w .at .inside) e
 

@@ -8,7 +8,7 @@ use mathlib.Core.Bool.{true, false}
 use borrow.Author.Tests.{lt-ltb, le-ltb}
 use lib.ListN.{length, take, set}
 use lib.Seq.{length-take-le, take-suc-set}
-use Rattle.terms.specs.Bounds.{edition-one, SYMBOLS}
+use Rattle.terms.specs.Bounds.{edition-one, SYMBOLS, EMPTY, MEMBER}
 use Rattle.terms.specs.declared.refusal.Cause.the-variants.{Byte, Limit}
 use Rattle.numerals.specs.TextReading.{Reading, read, fault}
 use Rattle.numerals.specs.Bytes.{byte}
@@ -34,7 +34,7 @@ module _ {l : List ℕ} {n : ℕ} (R : Room l n) where
   symbol-full p k h = rw (counted, le-ltb n SYMBOLS h)
 
   -- the empty set's word
-  pub empty-closed : (p : ℕ) → n < SYMBOLS → read (p + 1) (done (take (n + 1) (set l n 0))) ≡ close-empty edition-one p (take n l)
+  pub empty-closed : (p : ℕ) → n < SYMBOLS → read (p + 1) (done (take (n + 1) (set l n EMPTY))) ≡ close-empty edition-one p (take n l)
   unfolding close-empty
   empty-closed p h = rw (stored 0 h) (sym (symbol-free p _ h))
 
@@ -44,7 +44,7 @@ module _ {l : List ℕ} {n : ℕ} (R : Room l n) where
 
   -- the word of a member adding
   module _ (s : List ℕ) (p : ℕ) {b : ℕ} (e : b ≡ byte s p) where
-    pub member-due : begins b ≡ true → n < SYMBOLS → read p (due Member (take (n + 1) (set l n 1))) ≡ due-member edition-one s p (take n l)
+    pub member-due : begins b ≡ true → n < SYMBOLS → read p (due Member (take (n + 1) (set l n MEMBER))) ≡ due-member edition-one s p (take n l)
     unfolding due-member
     member-due t h = rw (stored 1 h, ← e, t) (sym (symbol-free p _ h))
 

@@ -6,7 +6,7 @@ use mathlib.Core.Bool.{Bool, _||_}
 use mathlib.Core.List.{List, [], _∷_, _++_}
 use lib.Dec.{eqb, ltb}
 use lib.ListN.{length, getD, take}
-use Rattle.terms.specs.Bounds.{Bounds, SYMBOLS}
+use Rattle.terms.specs.Bounds.{Bounds, SYMBOLS, EMPTY, MEMBER}
 use Rattle.terms.specs.declared.refusal.Cause.the-variants.{Byte, Limit, Undeclared, Arguments, Nesting}
 use Rattle.text.specs.Text.{choose}
 use Rattle.numerals.specs.TextReading.{Reading, read, refused, fault, and-then}
@@ -33,7 +33,7 @@ module _ (b : Bounds) where
 
   -- the closing bracket at p ends the empty set
   unfoldable pub close-empty : ℕ → List ℕ → Reading Coming
-  close-empty p ws = symbol p (length ws) (λ _. read (p + 1) (done (ws ++ (0 ∷ []))))
+  close-empty p ws = symbol p (length ws) (λ _. read (p + 1) (done (ws ++ (EMPTY ∷ []))))
 
 module _ (s : List ℕ) where
   -- the tail is due at p: no set
@@ -65,7 +65,7 @@ module _ (b : Bounds) (s : List ℕ) where
   unfoldable pub due-member : ℕ → List ℕ → Reading Coming
   due-member p ws =
       choose (begins (byte s p))
-      (λ _. symbol b p (length ws) (λ _. read p (due Member (ws ++ (1 ∷ [])))))
+      (λ _. symbol b p (length ws) (λ _. read p (due Member (ws ++ (MEMBER ∷ [])))))
       (λ _. fault Byte p)
 
   unfoldable pub an-unknown : ℕ → ℕ → List ℕ → Reading Coming

@@ -9,7 +9,7 @@ use lib.Dec.{eqb}
 use lib.ListN.{length, take, drop, length-append, length-take, length-drop}
 use lib.Seq.{drop-at, take-append-le}
 use borrow.Author.Tests.{eqb-true}
-use Rattle.terms.specs.Bounds.{Bounds, Proper}
+use Rattle.terms.specs.Bounds.{Bounds, Proper, MEMBER}
 use Rattle.terms.specs.Kind.{takes, takes-member, Worded}
 use Rattle.terms.specs.Lists.{All, none, both, cases}
 use Rattle.terms.specs.Term.{words, size, members, kernel}
@@ -52,9 +52,9 @@ module _ {b : Bounds} (proper : Proper b) (arities : List ℕ) where
   unfolding stripped span
   stripped-ended [] due place = omega arith
   stripped-ended (w ∷ ws) zero place =
-      cases (eqb w 1)
+      cases (eqb w MEMBER)
       (λ e.
-      let o : w ≡ 1 = eqb-true w 1 e in
+      let o : w ≡ MEMBER = eqb-true w MEMBER e in
       let k : 0 + takes b arities w ≡ 2 = zero-add (takes b arities w) ∙ rw o (takes-member proper arities) in
       rw (e, k) (omega (arith, stripped-ended ws 1 (place + 1))))
       (λ e. rw e (omega arith))

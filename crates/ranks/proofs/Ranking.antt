@@ -7,6 +7,7 @@ use native.Mathlib.Numerals.{sub-one}
 use lib.ListN.{length, getD, set}
 use Rattle.terms.specs.Term.{with}
 use Rattle.terms.specs.Reading.{taken}
+use Rattle.terms.specs.Bounds.{MEMBER}
 use Rattle.laws.specs.Rank.{rank, rank*}
 use Rattle.laws.specs.Values.{value*}
 use Rattle.term_places.specs.Places.{Held, valued, Placed, Known, end, resolved, member-of, rest-of}
@@ -70,7 +71,7 @@ pub record Reckoning (h : Held) (ranks : List ℕ) (p r x m : ℕ) : Type 0 wher
   pub so-far : r < 65535 → max r (rank* (arguments h x m)) ≡ rank* (arguments h (p + 1) (following h p))
 
 module _ {h : Held} {ranks : List ℕ} {p : ℕ} (o : OfFunctor h ranks p) where
-  no-set : getD (h .words) p 0 ≡ 1 → ⊥
+  no-set : getD (h .words) p 0 ≡ MEMBER → ⊥
   no-set e = omega (arith, o .no-mark)
 
   pub reckoning-start : Reckoning h ranks p 0 (p + 1) (following h p)
@@ -141,7 +142,7 @@ module _ {h : Held} {ranks : List ℕ} {due : ℕ} (w : Rated h ranks due) (z : 
     pub rated-on : Rated h (set ranks (due - 1) r) (due - 1)
     rated-on = record { ranked = ranked-set (w .ranked) (rated-of .inside) t; inside = let i = w .inside in omega arith }
 
-    module _ (e : getD (h .words) (due - 1) 0 ≡ 1) where
+    module _ (e : getD (h .words) (due - 1) 0 ≡ MEMBER) where
       pub rated-set-of : OfSet h (set ranks (due - 1) r) (due - 1)
       rated-set-of = record { ranked = rated-on .ranked; inside = rated-of .inside; member = e }
 

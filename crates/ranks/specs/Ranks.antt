@@ -3,6 +3,7 @@ use Prim.Native.Nat.{ℕ, suc, _<_, _≤_}
 use mathlib.Core.Path.{_≡_}
 use mathlib.Core.List.{List}
 use lib.ListN.{length, getD}
+use Rattle.terms.specs.Bounds.{MEMBER}
 use Rattle.laws.specs.Rank.{rank}
 use Rattle.term_places.specs.Places.{Held, valued, Placed, Known}
 
@@ -31,7 +32,7 @@ pub record OfPlace (h : Held) (ranks : List ℕ) (p : ℕ) : Type 0 where
 pub record OfSet (h : Held) (ranks : List ℕ) (p : ℕ) : Type 0 where
   pub ranked : Ranked h ranks
   pub inside : p < length (h .words)
-  pub member : getD (h .words) p 0 ≡ 1
+  pub member : getD (h .words) p 0 ≡ MEMBER
 
 pub record OfFunctor (h : Held) (ranks : List ℕ) (p : ℕ) : Type 0 where
   pub ranked : Ranked h ranks

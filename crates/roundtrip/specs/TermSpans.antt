@@ -7,7 +7,7 @@ use mathlib.Core.List.{List, [], _∷_, _++_, append-assoc, append-nil}
 use borrow.Author.Tests.{eqb-true, eqb-false, ltb-true, ne-eqb}
 use lib.Dec.{eqb, ltb}
 use lib.ListN.{length, drop, getD}
-use Rattle.terms.specs.Bounds.{Bounds}
+use Rattle.terms.specs.Bounds.{Bounds, MEMBER, EMPTY}
 use Rattle.terms.specs.Lists.{cases}
 use Rattle.terms.specs.Term.{Term, Terms, unknown, empty, with, functor, none, more, words, words*, count, nesting, inside, deepest}
 use Rattle.terms.specs.Formed.{Formed, Formed*, formed-unknown, formed-empty, formed-with, formed-functor, formed-none, formed-more}
@@ -30,15 +30,15 @@ module _ (b : Bounds) (s : List ℕ) (n : ℕ) (arities : List ℕ) where
   -- how a term at p began, after the words ws: whole, or with a bracket that opened
   pub data Starts (depth p : ℕ) (ws : List ℕ) : ℕ → Coming → Type 0 where
     whole : (t : Term) {q : ℕ} → Span p (text t) q → Formed arities n t → nesting t ≡ 0 → Starts depth p ws q (done (ws ++ words b t))
-    opens-set : {q : ℕ} → Span p (123 ∷ []) q → depth < b .nesting → Starts depth p ws q (due Member (ws ++ (1 ∷ [])))
+    opens-set : {q : ℕ} → Span p (123 ∷ []) q → depth < b .nesting → Starts depth p ws q (due Member (ws ++ (MEMBER ∷ [])))
     opens-arguments : (k left : ℕ) {q : ℕ} → Span p (functor-name k ++ (40 ∷ [])) q → k < length arities → suc left ≡ getD arities k 0 → depth < b .nesting
         → Starts depth p ws q (due (Argument left) (ws ++ ((b .first-functor + k) ∷ [])))
 
   -- what followed at p an item
   pub data Passed (p : ℕ) (ws : List ℕ) : Item → ℕ → Coming → Type 0 where
-    member-more : {q : ℕ} → Span p (44 ∷ []) q → Passed p ws Member q (due Member (ws ++ (1 ∷ [])))
+    member-more : {q : ℕ} → Span p (44 ∷ []) q → Passed p ws Member q (due Member (ws ++ (MEMBER ∷ [])))
     member-tail : {q : ℕ} → Span p (124 ∷ []) q → eqb (byte s q) 123 ≡ false → Passed p ws Member q (due Tail ws)
-    member-end : {q : ℕ} → Span p (125 ∷ []) q → Passed p ws Member q (done (ws ++ (0 ∷ [])))
+    member-end : {q : ℕ} → Span p (125 ∷ []) q → Passed p ws Member q (done (ws ++ (EMPTY ∷ [])))
     tail-end : {q : ℕ} → Span p (125 ∷ []) q → Passed p ws Tail q (done ws)
     argument-more : {left q : ℕ} → Span p (44 ∷ []) q → Passed p ws (Argument (suc left)) q (due (Argument left) ws)
     argument-end : {q : ℕ} → Span p (41 ∷ []) q → Passed p ws (Argument 0) q (done ws)
@@ -53,11 +53,11 @@ module _ (b : Bounds) (s : List ℕ) (n : ℕ) (arities : List ℕ) where
       (λ t. rw t stops)
 
   -- the empty set closes at p, after what stands from o to p
-  close-holds : (P : ℕ → Coming → Type 0) (p : ℕ) (ws : List ℕ) → P (p + 1) (done (ws ++ (0 ∷ []))) → Holds P (close-empty b p ws)
+  close-holds : (P : ℕ → Coming → Type 0) (p : ℕ) (ws : List ℕ) → P (p + 1) (done (ws ++ (EMPTY ∷ []))) → Holds P (close-empty b p ws)
   unfolding close-empty symbol
   close-holds P p ws h = cases (ltb (length ws) (b .symbols)) (λ t. rw t (goes h)) (λ t. rw t stops)
 
-  member-holds : (P : ℕ → Coming → Type 0) (p : ℕ) (ws : List ℕ) → P p (due Member (ws ++ (1 ∷ []))) → Holds P (due-member b s p ws)
+  member-holds : (P : ℕ → Coming → Type 0) (p : ℕ) (ws : List ℕ) → P p (due Member (ws ++ (MEMBER ∷ []))) → Holds P (due-member b s p ws)
   unfolding due-member symbol
   member-holds P p ws h =
       cases (begins (byte s p))
@@ -158,10 +158,10 @@ module _ (b : Bounds) (s : List ℕ) (n : ℕ) (arities : List ℕ) where
   List-holds fuel = (depth : ℕ) (i : Item) (p : ℕ) (ws : List ℕ) → depth ≤ b .nesting → Holds (Listed depth p ws i) (list b s n arities fuel depth i p ws)
 
   -- the text of a set, and of a functor with arguments, from its first bracket on
-  set-whole : (depth p q : ℕ) (ws : List ℕ) → Span p (123 ∷ []) q → (r : ℕ) (vs : List ℕ) → Listed (depth + 1) q (ws ++ (1 ∷ [])) Member r vs → Termed depth p ws r vs
+  set-whole : (depth p q : ℕ) (ws : List ℕ) → Span p (123 ∷ []) q → (r : ℕ) (vs : List ℕ) → Listed (depth + 1) q (ws ++ (MEMBER ∷ [])) Member r vs → Termed depth p ws r vs
   unfolding text words nesting
   set-whole depth p q ws e r vs (members m t f w fm ft dm dt) =
-      termed (with m t) (join s (123 ∷ []) (text m ++ after-member t) p q r e f) (w ∙ append-assoc ws (1 ∷ []) (words b m ++ words b t)) (formed-with fm ft) (omega arith)
+      termed (with m t) (join s (123 ∷ []) (text m ++ after-member t) p q r e f) (w ∙ append-assoc ws (MEMBER ∷ []) (words b m ++ words b t)) (formed-with fm ft) (omega arith)
 
   functor-whole : (depth p q k left : ℕ) (ws : List ℕ) → Span p (functor-name k ++ (40 ∷ [])) q → k < length arities → suc left ≡ getD arities k 0
       → (r : ℕ) (vs : List ℕ) → Listed (depth + 1) q (ws ++ ((b .first-functor + k) ∷ [])) (Argument left) r vs → Termed depth p ws r vs
@@ -175,7 +175,7 @@ module _ (b : Bounds) (s : List ℕ) (n : ℕ) (arities : List ℕ) where
       → Holds (Termed depth p ws) (follow (λ i q vs. list b s n arities fuel (depth + 1) i q vs) q c)
   unfolding follow
   start-whole fuel depth p ws h L q c (whole t e F d) = goes (termed t e refl F (omega arith))
-  start-whole fuel depth p ws h L q c (opens-set e d) = holds-map (L (depth + 1) Member q (ws ++ (1 ∷ [])) (omega arith)) (set-whole depth p q ws e)
+  start-whole fuel depth p ws h L q c (opens-set e d) = holds-map (L (depth + 1) Member q (ws ++ (MEMBER ∷ [])) (omega arith)) (set-whole depth p q ws e)
   start-whole fuel depth p ws h L q c (opens-arguments k left e l a d) =
       holds-map (L (depth + 1) (Argument left) q (ws ++ ((b .first-functor + k) ∷ [])) (omega arith)) (functor-whole depth p q k left ws e l a)
 
@@ -200,11 +200,11 @@ module _ (b : Bounds) (s : List ℕ) (n : ℕ) (arities : List ℕ) where
     spaced : (vs rest : List ℕ) → vs ≡ us ++ rest → vs ≡ ws ++ (words b t ++ rest)
     spaced vs rest x = x ∙ ap (λ (l : List ℕ). l ++ rest) w ∙ append-assoc ws (words b t) rest
 
-    more-members : (r : ℕ) → Span q (44 ∷ []) r → (o : ℕ) (vs : List ℕ) → Listed depth r (us ++ (1 ∷ [])) Member o vs → Listed depth p ws Member o vs
+    more-members : (r : ℕ) → Span q (44 ∷ []) r → (o : ℕ) (vs : List ℕ) → Listed depth r (us ++ (MEMBER ∷ [])) Member o vs → Listed depth p ws Member o vs
     unfolding after-member words nesting
     more-members r f o vs (members m u g x fm fu dm du) =
         members t (with m u) (join s (text t) (44 ∷ (text m ++ after-member u)) p q o e (join s (44 ∷ []) (text m ++ after-member u) q r o f g))
-        (spaced vs (1 ∷ (words b m ++ words b u)) (x ∙ append-assoc us (1 ∷ []) (words b m ++ words b u))) F (formed-with fm fu) d (omega arith)
+        (spaced vs (MEMBER ∷ (words b m ++ words b u)) (x ∙ append-assoc us (MEMBER ∷ []) (words b m ++ words b u))) F (formed-with fm fu) d (omega arith)
 
     a-tail : (r : ℕ) → Span q (124 ∷ []) r → eqb (byte s r) 123 ≡ false → (o : ℕ) (vs : List ℕ) → Listed depth r us Tail o vs → Listed depth p ws Member o vs
     a-tail r f c o vs (tail u g x fu du) =
@@ -220,10 +220,10 @@ module _ (b : Bounds) (s : List ℕ) (n : ℕ) (arities : List ℕ) where
 
     passed-whole : (i : Item) (r : ℕ) (c : Coming) → Passed q us i r c → Holds (Listed depth p ws i) (follow (λ j o vs. list b s n arities fuel depth j o vs) r c)
     unfolding follow text after-member after-argument words nesting count
-    passed-whole i r c (member-more f) = holds-map (L depth Member r (us ++ (1 ∷ [])) h) (more-members r f)
+    passed-whole i r c (member-more f) = holds-map (L depth Member r (us ++ (MEMBER ∷ [])) h) (more-members r f)
     passed-whole i r c (member-tail f k) = holds-map (L depth Tail r us h) (a-tail r f k)
     passed-whole i r c (member-end f) =
-        goes (members t empty (join s (text t) (125 ∷ []) p q r e f) (spaced (us ++ (0 ∷ [])) (0 ∷ []) refl) F formed-empty d (omega arith))
+        goes (members t empty (join s (text t) (125 ∷ []) p q r e f) (spaced (us ++ (EMPTY ∷ [])) (EMPTY ∷ []) refl) F formed-empty d (omega arith))
     passed-whole i r c (tail-end f) = goes (tail t (join s (text t) (125 ∷ []) p q r e f) w F d)
     passed-whole i r c (argument-more {left} f) = holds-map (L depth (Argument left) r us h) (more-arguments left r f)
     passed-whole i r c (argument-end f) =

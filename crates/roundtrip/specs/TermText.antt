@@ -7,7 +7,7 @@ use mathlib.Core.List.{List, [], _∷_, _++_, append-assoc, append-nil}
 use borrow.Author.Tests.{lt-ltb, ne-eqb}
 use lib.Dec.{eqb}
 use lib.ListN.{length, drop, length-append}
-use Rattle.terms.specs.Bounds.{Bounds}
+use Rattle.terms.specs.Bounds.{Bounds, EMPTY, MEMBER}
 use Rattle.terms.specs.Term.{Term, Terms, unknown, empty, with, functor, none, more, words, words*, count, nesting, inside, bracketed, deepest}
 use Rattle.terms.specs.Formed.{Formed, Formed*, formed-unknown, formed-with, formed-functor, formed-more}
 use Rattle.text.specs.Text.{decimal, unknown-name, functor-name, text, after-member, arguments, after-argument}
@@ -84,7 +84,7 @@ module _ (b : Bounds) (s : List ℕ) (n : ℕ) (arities : List ℕ) (few : n ≤
   unfolding text words follow beginning a-set close-empty symbol
   empty-read fuel depth p ws r S x F d =
       let z : p + 1 + 1 ≡ p + 2 = omega arith in
-      term-begun fuel depth p ws (p + 2) (done (ws ++ (0 ∷ []))) _ (omega (arith, S .fueled))
+      term-begun fuel depth p ws (p + 2) (done (ws ++ (EMPTY ∷ []))) _ (omega (arith, S .fueled))
       (rw (first-byte s p 123 (125 ∷ r) (S .there), first-byte s (p + 1) 125 r (after-byte s p 123 (125 ∷ r) (S .there)), lt-ltb (length ws) (b .symbols) (omega (arith, S .room)), z))
       (λ f e. refl)
 
@@ -113,16 +113,16 @@ module _ (b : Bounds) (s : List ℕ) (n : ℕ) (arities : List ℕ) (few : n ≤
   member-list : (m t : Term) → Text-reads m → After-reads t → (fuel depth p : ℕ) (ws r : List ℕ) → drop p s ≡ text m ++ (after-member t ++ r)
       → length ws + length (words b (with m t)) ≤ b .symbols → 2 * (length s - p) + 1 < fuel → Formed arities n m → Formed arities n t
       → depth + nesting m ≤ b .nesting → depth + inside t ≤ b .nesting
-      → list b s n arities fuel depth Member p (ws ++ (1 ∷ [])) ≡ read (p + length (text m) + length (after-member t)) (ws ++ words b (with m t))
+      → list b s n arities fuel depth Member p (ws ++ (MEMBER ∷ [])) ≡ read (p + length (text m) + length (after-member t)) (ws ++ words b (with m t))
   unfolding words
   member-list m t M A fuel depth p ws r e k z fm ft dm dt =
       let lw = length-append (words b m) (words b t) in
-      let l1 = length-append ws (1 ∷ []) in
-      let l2 = length-append (ws ++ (1 ∷ [])) (words b m) in
-      list-item fuel depth Member p (ws ++ (1 ∷ [])) (p + length (text m)) ((ws ++ (1 ∷ [])) ++ words b m) _ (omega arith)
+      let l1 = length-append ws (MEMBER ∷ []) in
+      let l2 = length-append (ws ++ (MEMBER ∷ [])) (words b m) in
+      list-item fuel depth Member p (ws ++ (MEMBER ∷ [])) (p + length (text m)) ((ws ++ (MEMBER ∷ [])) ++ words b m) _ (omega arith)
       (λ g y. (
-        M g depth p (ws ++ (1 ∷ [])) (after-member t ++ r) (record { there = e; room = omega arith; fueled = omega arith }) (after-closed t r) fm dm,
-        A g depth (p + length (text m)) ((ws ++ (1 ∷ [])) ++ words b m) r
+        M g depth p (ws ++ (MEMBER ∷ [])) (after-member t ++ r) (record { there = e; room = omega arith; fueled = omega arith }) (after-closed t r) fm dm,
+        A g depth (p + length (text m)) ((ws ++ (MEMBER ∷ [])) ++ words b m) r
             (record { there = after-bytes s p (text m) (after-member t ++ r) e; room = omega arith; fueled = omega arith }) ft dt
             ∙ same refl (simp append-assoc),
       ))
@@ -134,7 +134,7 @@ module _ (b : Bounds) (s : List ℕ) (n : ℕ) (arities : List ℕ) (few : n ≤
       let i : p < length s = in-text s p (omega (arith, first-byte s p 123 ((text m ++ after-member t) ++ r) (S .there))) in
       let lt = length-append (text m) (after-member t) in
       let g = begun-begins s (p + 1) (text-begun m (after-member t ++ r)) e in
-      term-begun fuel depth p ws (p + 1) (due Member (ws ++ (1 ∷ []))) _ (omega (arith, S .fueled))
+      term-begun fuel depth p ws (p + 1) (due Member (ws ++ (MEMBER ∷ []))) _ (omega (arith, S .fueled))
       (rw (
         first-byte s p 123 ((text m ++ after-member t) ++ r) (S .there),
         begun-no-close s (p + 1) (text-begun m (after-member t ++ r)) e,
@@ -151,14 +151,14 @@ module _ (b : Bounds) (s : List ℕ) (n : ℕ) (arities : List ℕ) (few : n ≤
       let i : p < length s = in-text s p (omega (arith, first-byte s p 44 ((text m ++ after-member t) ++ r) (S .there))) in
       let lt = length-append (text m) (after-member t) in
       let g = begun-begins s (p + 1) (text-begun m (after-member t ++ r)) e in
-      then-read {X = after b s Member p ws} _ {p = p + 1} {a = due Member (ws ++ (1 ∷ []))}
+      then-read {X = after b s Member p ws} _ {p = p + 1} {a = due Member (ws ++ (MEMBER ∷ []))}
       (rw (first-byte s p 44 ((text m ++ after-member t) ++ r) (S .there), g, lt-ltb (length ws) (b .symbols) (with-room m t ws (S .room))))
       ∙ (member-list m t M A fuel depth (p + 1) ws r e (S .room) (omega (arith, S .fueled)) fm ft (omega arith) (omega arith) ∙ same (omega arith) refl)
 
   after-empty : After-reads empty
   unfolding after-member words follow after member-passed close-empty symbol
   after-empty fuel depth p ws r S F d =
-      then-read {X = after b s Member p ws} _ {p = p + 1} {a = done (ws ++ (0 ∷ []))}
+      then-read {X = after b s Member p ws} _ {p = p + 1} {a = done (ws ++ (EMPTY ∷ []))}
       (rw (first-byte s p 125 r (S .there), lt-ltb (length ws) (b .symbols) (omega (arith, S .room))))
 
   -- a bar, a term that is no set, and the closing bracket

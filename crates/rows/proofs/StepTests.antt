@@ -6,7 +6,7 @@ use mathlib.Core.Bool.{Bool, true, false, not}
 use lib.Dec.{eqb}
 use lib.ListN.{getD}
 use borrow.Author.Tests.{eq-eqb, ne-eqb, not-true}
-use Rattle.terms.specs.Bounds.{edition-one, FIRST-UNKNOWN, UNKNOWN-WORDS}
+use Rattle.terms.specs.Bounds.{edition-one, FIRST-UNKNOWN, UNKNOWN-WORDS, EMPTY, MEMBER}
 use Rattle.terms.specs.Kind.{within}
 use Rattle.walks.specs.declared.occurrence.Occurrence.the-variants.{Absent, Tail, Inside}
 use Rattle.walks.specs.Occurrence.{in-rest}
@@ -43,18 +43,18 @@ module _ (arities left right : List ℕ) where
   compared-apart d = rw (ne-eqb (getD left 0 0) (getD right 0 0) d)
 
   module _ (e : getD left 0 0 ≡ getD right 0 0) where
-    pub compared-empty : getD left 0 0 ≡ 0 → Drop ≡ compare-words edition-one arities left right
+    pub compared-empty : getD left 0 0 ≡ EMPTY → Drop ≡ compare-words edition-one arities left right
     unfolding compare-words
-    compared-empty z = rw (eq-eqb (getD left 0 0) (getD right 0 0) e, eq-eqb (getD left 0 0) 0 z)
+    compared-empty z = rw (eq-eqb (getD left 0 0) (getD right 0 0) e, eq-eqb (getD left 0 0) EMPTY z)
 
-    pub compared-sets : (getD left 0 0 ≡ 0 → ⊥) → getD left 0 0 ≡ 1
+    pub compared-sets : (getD left 0 0 ≡ EMPTY → ⊥) → getD left 0 0 ≡ MEMBER
         → Split (tails-of edition-one (kernel-word edition-one arities left) (kernel-word edition-one arities right)) ≡ compare-words edition-one arities left right
     unfolding compare-words
-    compared-sets z o = rw (eq-eqb (getD left 0 0) (getD right 0 0) e, ne-eqb (getD left 0 0) 0 z, eq-eqb (getD left 0 0) 1 o)
+    compared-sets z o = rw (eq-eqb (getD left 0 0) (getD right 0 0) e, ne-eqb (getD left 0 0) EMPTY z, eq-eqb (getD left 0 0) MEMBER o)
 
-    pub compared-functors : (getD left 0 0 ≡ 0 → ⊥) → (getD left 0 0 ≡ 1 → ⊥) → Decompose ≡ compare-words edition-one arities left right
+    pub compared-functors : (getD left 0 0 ≡ EMPTY → ⊥) → (getD left 0 0 ≡ MEMBER → ⊥) → Decompose ≡ compare-words edition-one arities left right
     unfolding compare-words
-    compared-functors z o = rw (eq-eqb (getD left 0 0) (getD right 0 0) e, ne-eqb (getD left 0 0) 0 z, ne-eqb (getD left 0 0) 1 o)
+    compared-functors z o = rw (eq-eqb (getD left 0 0) (getD right 0 0) e, ne-eqb (getD left 0 0) EMPTY z, ne-eqb (getD left 0 0) MEMBER o)
 
   -- the two first words, and whether they are unknowns'
   module _ {l r : ℕ} (el : l ≡ getD left 0 0) (er : r ≡ getD right 0 0) where

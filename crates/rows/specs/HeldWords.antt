@@ -8,7 +8,7 @@ use native.Mathlib.Omega.{arith}
 use lib.Dec.{eqb}
 use borrow.Author.Tests.{eqb-true, eqb-false, ne-eqb}
 use Rattle.room.specs.Replaced.{replaced, count, replaced-none, replaced-append, replaced-cons, replaced-nil, image-same, image-other}
-use Rattle.terms.specs.Bounds.{Bounds, UnknownsFirst}
+use Rattle.terms.specs.Bounds.{Bounds, UnknownsFirst, MEMBER, EMPTY}
 use Rattle.terms.specs.Kind.{takes}
 use Rattle.terms.specs.Lists.{any, or-neither, cases}
 use Rattle.terms.specs.Term.{Term, Terms, unknown, empty, with, functor, none, more, words, words*, subst, subst*, occurs, occurs*}
@@ -49,7 +49,7 @@ absent-in-rest b arities x [] due h = refl
 absent-in-rest b arities x (w ∷ ws) zero h =
     let n = or-neither (eqb w x) (holds x ws) h in
     rw (n .0, absent-in-rest b arities x ws 1 (n .1), absent-in-terms b arities x ws (takes b arities w) (n .1))
-    (cases (eqb w 1) (λ t. rw t) (λ f. rw f))
+    (cases (eqb w MEMBER) (λ t. rw t) (λ f. rw f))
 absent-in-rest b arities x (w ∷ ws) (suc due) h =
     let n = or-neither (eqb w x) (holds x ws) h in
     rw (n .0) (absent-in-rest b arities x ws (due + takes b arities w) (n .1))
@@ -95,10 +95,10 @@ module _ {b : Bounds} (order : UnknownsFirst b) {x : ℕ} (h : x < b .unknown-wo
           (λ e.
           rw (e, replaced-cons, replaced-nil, image-other (b .first-unknown + x) (words b s) (b .first-unknown + i) (λ q. eqb-false i x e (omega arith))))
       replaced-words empty =
-          kept-word 0 (mark-other 0 (omega arith)) [] ∙ ap (λ ws. 0 ∷ ws) (replaced-nil (b .first-unknown + x) (words b s))
+          kept-word EMPTY (mark-other EMPTY (omega arith)) [] ∙ ap (λ ws. EMPTY ∷ ws) (replaced-nil (b .first-unknown + x) (words b s))
       replaced-words (with m r) =
-          kept-word 1 (mark-other 1 (omega arith)) (words b m ++ words b r)
-          ∙ ap (λ ws. 1 ∷ ws) (replaced-append (b .first-unknown + x) (words b s) (words b m) (words b r) ∙ rw (replaced-words m, replaced-words r))
+          kept-word MEMBER (mark-other MEMBER (omega arith)) (words b m ++ words b r)
+          ∙ ap (λ ws. MEMBER ∷ ws) (replaced-append (b .first-unknown + x) (words b s) (words b m) (words b r) ∙ rw (replaced-words m, replaced-words r))
       replaced-words (functor k ts) =
           kept-word (b .first-functor + k) (functor-other k) (words* b ts) ∙ ap (λ ws. (b .first-functor + k) ∷ ws) (replaced-words* ts)
 

@@ -6,7 +6,7 @@ use mathlib.Core.List.{List, [], _∷_, _++_, append-assoc, append-nil}
 use native.Mathlib.Omega.{arith}
 use lib.ListN.{length, take, getD, length-append}
 use lib.Seq.{take-at, getD-append-add}
-use Rattle.terms.specs.Bounds.{Bounds, UnknownsFirst}
+use Rattle.terms.specs.Bounds.{Bounds, UnknownsFirst, MEMBER}
 use Rattle.terms.specs.Kind.{within, within-first, within-before, within-apart, Worded}
 use Rattle.terms.specs.Lists.{any}
 use Rattle.terms.specs.Term.{Term, unknown, empty, with, functor, words, members, kernel, over, occurs}
@@ -18,7 +18,7 @@ use Rattle.rows.specs.Stripped.{kernel-place}
 
 unfoldable pub member-words : Bounds → List Term → List ℕ
 member-words b [] = []
-member-words b (m ∷ ms) = 1 ∷ (words b m ++ member-words b ms)
+member-words b (m ∷ ms) = MEMBER ∷ (words b m ++ member-words b ms)
 
 -- the first word of a term
 unfoldable pub head-word : Bounds → Term → ℕ
@@ -32,20 +32,20 @@ module _ (b : Bounds) where
   unfolding over words member-words
   words-over [] k = refl
   words-over (m ∷ ms) k =
-      rw (words-over ms k) (ap (λ (ws : List ℕ). 1 ∷ ws) (sym (append-assoc (words b m) (member-words b ms) (words b k))))
+      rw (words-over ms k) (ap (λ (ws : List ℕ). MEMBER ∷ ws) (sym (append-assoc (words b m) (member-words b ms) (words b k))))
 
   pub members-append : (ms ns : List Term) → member-words b (ms ++ ns) ≡ member-words b ms ++ member-words b ns
   unfolding member-words
   members-append [] ns = refl
   members-append (m ∷ ms) ns =
-      rw (members-append ms ns) (ap (λ (ws : List ℕ). 1 ∷ ws) (sym (append-assoc (words b m) (member-words b ms) (member-words b ns))))
+      rw (members-append ms ns) (ap (λ (ws : List ℕ). MEMBER ∷ ws) (sym (append-assoc (words b m) (member-words b ms) (member-words b ns))))
 
   pub words-members : (t : Term) → words b t ≡ member-words b (members t) ++ words b (kernel t)
   unfolding words member-words members kernel
   words-members (unknown i) = refl
   words-members empty = refl
   words-members (with m r) =
-      rw (words-members r) (ap (λ (ws : List ℕ). 1 ∷ ws) (sym (append-assoc (words b m) (member-words b (members r)) (words b (kernel r)))))
+      rw (words-members r) (ap (λ (ws : List ℕ). MEMBER ∷ ws) (sym (append-assoc (words b m) (member-words b (members r)) (words b (kernel r)))))
   words-members (functor k ts) = refl
 
   pub length-members : (t : Term) → length (member-words b (members t)) ≡ kernel-place t

@@ -7,7 +7,7 @@ use native.Mathlib.Omega.{arith}
 use lib.Dec.{eqb}
 use lib.ListN.{getD}
 use borrow.Author.Tests.{eq-eqb, ne-eqb, eqb-true, eqb-false}
-use Rattle.terms.specs.Bounds.{Bounds}
+use Rattle.terms.specs.Bounds.{Bounds, EMPTY, MEMBER}
 use Rattle.terms.specs.Flat.{eqb-shift}
 use Rattle.terms.specs.Kind.{within, Worded}
 use Rattle.terms.specs.Lists.{any, cases}
@@ -51,8 +51,8 @@ meet-words b arities x ws k = meet-where (in-rest b arities x ws 0) k
 unfoldable pub compare-words : Bounds → (arities left right : List ℕ) → Step
 compare-words b arities left right =
     cond (eqb (getD left 0 0) (getD right 0 0))
-    (cond (eqb (getD left 0 0) 0) Drop
-    (cond (eqb (getD left 0 0) 1) (Split (tails-of b (kernel-word b arities left) (kernel-word b arities right))) Decompose))
+    (cond (eqb (getD left 0 0) EMPTY) Drop
+    (cond (eqb (getD left 0 0) MEMBER) (Split (tails-of b (kernel-word b arities left) (kernel-word b arities right))) Decompose))
     Dead
 
 unfoldable pub step-by : Bool → Bool → Bounds → (arities left right : List ℕ) → Step
@@ -132,10 +132,10 @@ module _ {b : Bounds} {arities : List ℕ} {n : ℕ} (worded : Worded b arities 
       rw (eqb-shift (b .first-unknown) x y)
       (cases (eqb x y) (λ e. rw e) (λ e. rw (e, ne-eqb y x (λ q. eqb-false x y e (sym q)))))
 
-  functors : (k j : ℕ) (s : Step) → cond (eqb (b .first-functor + k) (b .first-functor + j)) (cond (eqb (b .first-functor + k) 0) Drop (cond (eqb (b .first-functor + k) 1) s Decompose)) Dead ≡ cond (eqb k j) Decompose Dead
+  functors : (k j : ℕ) (s : Step) → cond (eqb (b .first-functor + k) (b .first-functor + j)) (cond (eqb (b .first-functor + k) EMPTY) Drop (cond (eqb (b .first-functor + k) MEMBER) s Decompose)) Dead ≡ cond (eqb k j) Decompose Dead
   functors k j s =
       cases (eqb k j)
-      (λ e. rw (e, eq-eqb (b .first-functor + k) (b .first-functor + j) (ap (λ (i : ℕ). b .first-functor + i) (eqb-true k j e)), ne-eqb (b .first-functor + k) 0 (λ q. omega (arith, worded .proper .functors-after-marks)), ne-eqb (b .first-functor + k) 1 (λ q. omega (arith, worded .proper .functors-after-marks))))
+      (λ e. rw (e, eq-eqb (b .first-functor + k) (b .first-functor + j) (ap (λ (i : ℕ). b .first-functor + i) (eqb-true k j e)), ne-eqb (b .first-functor + k) EMPTY (λ q. omega (arith, worded .proper .functors-after-marks)), ne-eqb (b .first-functor + k) MEMBER (λ q. omega (arith, worded .proper .functors-after-marks))))
       (λ e. rw (e, ne-eqb (b .first-functor + k) (b .first-functor + j) (λ q. eqb-false k j e (omega arith))))
 
   differ : (l r : ℕ) (s : Step) → (l ≡ r → ⊥) → cond (eqb l r) s Dead ≡ Dead

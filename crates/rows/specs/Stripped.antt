@@ -9,7 +9,7 @@ use lib.Dec.{eqb}
 use lib.ListN.{length, drop, getD, drop-of-length-le}
 use lib.Seq.{drop-cons}
 use borrow.Author.Tests.{eq-eqb, ne-eqb}
-use Rattle.terms.specs.Bounds.{Bounds}
+use Rattle.terms.specs.Bounds.{Bounds, MEMBER}
 use Rattle.terms.specs.Kind.{takes, Worded}
 use Rattle.terms.specs.Lists.{cases, All-units}
 use Rattle.terms.specs.Term.{Term, unknown, empty, with, functor, words, words*, size}
@@ -19,7 +19,7 @@ use Rattle.terms.specs.Walk.{past}
 -- so many terms of a member are due, and a place is reached
 unfoldable pub stripped : Bounds → List ℕ → List ℕ → (due place : ℕ) → ℕ
 stripped b arities [] due place = place
-stripped b arities (w ∷ ws) zero place = cond (eqb w 1) (stripped b arities ws 1 (place + 1)) place
+stripped b arities (w ∷ ws) zero place = cond (eqb w MEMBER) (stripped b arities ws 1 (place + 1)) place
 stripped b arities (w ∷ ws) (suc due) place = stripped b arities ws (due + takes b arities w) (place + 1)
 
 abbrev pub kernel-at : Bounds → List ℕ → List ℕ → ℕ
@@ -38,7 +38,7 @@ module _ (b : Bounds) (arities : List ℕ) where
   stripped-within [] due place = omega arith
   stripped-within (w ∷ ws) zero place =
       let h = stripped-within ws 1 (place + 1) in
-      cases (eqb w 1) (λ t. rw t (omega arith)) (λ f. rw f (omega arith))
+      cases (eqb w MEMBER) (λ t. rw t (omega arith)) (λ f. rw f (omega arith))
   stripped-within (w ∷ ws) (suc due) place = omega (arith, stripped-within ws (due + takes b arities w) (place + 1))
 
   -- ---- as the code walks
@@ -48,16 +48,16 @@ module _ (b : Bounds) (arities : List ℕ) where
   stripped-out ws due place h = rw (drop-of-length-le ws h)
 
   module _ (ws : List ℕ) (place : ℕ) (h : place < length ws) where
-    pub stripped-mark : getD ws place 0 ≡ 1 → stripped b arities (drop place ws) 0 place ≡ stripped b arities (drop (place + 1) ws) 1 (place + 1)
+    pub stripped-mark : getD ws place 0 ≡ MEMBER → stripped b arities (drop place ws) 0 place ≡ stripped b arities (drop (place + 1) ws) 1 (place + 1)
     unfolding stripped
     stripped-mark e =
         let f : suc place ≡ place + 1 = omega arith in
         ap (λ (l : List ℕ). stripped b arities l 0 place) (drop-cons ws place 0 h ∙ ap (λ (k : ℕ). getD ws place 0 ∷ drop k ws) f)
-        ∙ ap (λ (c : Bool). cond c (stripped b arities (drop (place + 1) ws) 1 (place + 1)) place) (eq-eqb (getD ws place 0) 1 e)
+        ∙ ap (λ (c : Bool). cond c (stripped b arities (drop (place + 1) ws) 1 (place + 1)) place) (eq-eqb (getD ws place 0) MEMBER e)
 
-    pub stripped-stop : (getD ws place 0 ≡ 1 → ⊥) → stripped b arities (drop place ws) 0 place ≡ place
+    pub stripped-stop : (getD ws place 0 ≡ MEMBER → ⊥) → stripped b arities (drop place ws) 0 place ≡ place
     unfolding stripped
-    stripped-stop e = rw (drop-cons ws place 0 h, ne-eqb (getD ws place 0) 1 e)
+    stripped-stop e = rw (drop-cons ws place 0 h, ne-eqb (getD ws place 0) MEMBER e)
 
     pub stripped-on : (due : ℕ) → 0 < due
         → stripped b arities (drop place ws) due place ≡ stripped b arities (drop (place + 1) ws) (due - 1 + takes b arities (getD ws place 0)) (place + 1)
@@ -69,9 +69,9 @@ module _ (b : Bounds) (arities : List ℕ) where
         rw (e, drop-cons ws place 0 h, f)
 
 module _ {b : Bounds} {arities : List ℕ} {n : ℕ} (worded : Worded b arities n) where
-  stops : (w : ℕ) (ws : List ℕ) (place : ℕ) → (w ≡ 1 → ⊥) → stripped b arities (w ∷ ws) 0 place ≡ place + 0
+  stops : (w : ℕ) (ws : List ℕ) (place : ℕ) → (w ≡ MEMBER → ⊥) → stripped b arities (w ∷ ws) 0 place ≡ place + 0
   unfolding stripped
-  stops w ws place e = rw (ne-eqb w 1 e) (omega arith)
+  stops w ws place e = rw (ne-eqb w MEMBER e) (omega arith)
 
   pub stripped-words : {t : Term} → Formed arities n t → (ws : List ℕ) (place : ℕ) → stripped b arities (words b t ++ ws) 0 place ≡ place + kernel-place t
   unfolding stripped words kernel-place

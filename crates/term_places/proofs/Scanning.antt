@@ -6,6 +6,7 @@ use mathlib.Core.Bool.{true, false, _&&_}
 use lib.ListN.{getD}
 use Rattle.terms.specs.Term.{members}
 use Rattle.terms.specs.Lists.{false-unless}
+use Rattle.terms.specs.Bounds.{MEMBER}
 use Rattle.laws.specs.Equal.{equal}
 use Rattle.term_places.specs.Places.{Held, valued, Known, AtMember, Has, first, later, member-of, rest-of}
 use Rattle.term_places.specs.Classes.{some-equals, each-equalled, Compared, ComparedWith}
@@ -20,10 +21,10 @@ pub record Walk (h : Held) (p x : ℕ) : Type 0 where
 pub walk-start : {h : Held} {p : ℕ} → Known h p → Walk h p p
 walk-start k = record { known = k; part = λ z l. l }
 
-pub walk-on : {h : Held} {p x : ℕ} → Walk h p x → getD (h .words) x 0 ≡ 1 → Opened h x → Walk h p (rest-of h x)
+pub walk-on : {h : Held} {p x : ℕ} → Walk h p x → getD (h .words) x 0 ≡ MEMBER → Opened h x → Walk h p (rest-of h x)
 walk-on w e o = record { known = o .rest; part = λ z l. w .part z (later e l) }
 
-pub walk-member : {h : Held} {p x : ℕ} → Walk h p x → getD (h .words) x 0 ≡ 1 → Has h p (member-of h x)
+pub walk-member : {h : Held} {p x : ℕ} → Walk h p x → getD (h .words) x 0 ≡ MEMBER → Has h p (member-of h x)
 walk-member w e = w .part _ (first e)
 
 -- ---- is m's equal among the members at p?
@@ -37,10 +38,10 @@ pub covering-start : {h : Held} {labels : List ℕ} {p m : ℕ} → ComparedWith
 covering-start c = record { compared = c; walk = walk-start (c .comparing .left); so-far = refl }
 
 module _ {h : Held} {labels : List ℕ} {p m x : ℕ} (c : Covering h labels p m x) where
-  pub covering-end : (getD (h .words) x 0 ≡ 1 → ⊥) → some-equals (members (valued h p)) (valued h m) ≡ false
+  pub covering-end : (getD (h .words) x 0 ≡ MEMBER → ⊥) → some-equals (members (valued h p)) (valued h m) ≡ false
   covering-end n = c .so-far ∙ some-closed (closed (c .compared .comparing .placed) x (c .walk .known) n) (valued h m)
 
-  module _ (e : getD (h .words) x 0 ≡ 1) where
+  module _ (e : getD (h .words) x 0 ≡ MEMBER) where
     pub covering-opened : Opened h x
     covering-opened = opened (c .compared .comparing .placed) x (c .walk .known .inside) e
 
@@ -73,10 +74,10 @@ pub scanning-start : {h : Held} {labels : List ℕ} {p q : ℕ} → Compared h l
 scanning-start c = record { compared = c; walk = walk-start (c .comparing .right); so-far = refl }
 
 module _ {h : Held} {labels : List ℕ} {p q y : ℕ} (s : Scanning h labels p q y) where
-  pub scanning-end : (getD (h .words) y 0 ≡ 1 → ⊥) → each-equalled (members (valued h p)) (members (valued h q)) ≡ true
+  pub scanning-end : (getD (h .words) y 0 ≡ MEMBER → ⊥) → each-equalled (members (valued h p)) (members (valued h q)) ≡ true
   scanning-end n = s .so-far ∙ each-closed (closed (s .compared .comparing .placed) y (s .walk .known) n) (members (valued h p))
 
-  module _ (e : getD (h .words) y 0 ≡ 1) where
+  module _ (e : getD (h .words) y 0 ≡ MEMBER) where
     pub scanning-opened : Opened h y
     scanning-opened = opened (s .compared .comparing .placed) y (s .walk .known .inside) e
 

@@ -11,6 +11,7 @@ use Rattle.terms.specs.Flat.{size-positive}
 use Rattle.terms.specs.Kind.{takes, takes-empty, takes-functor}
 use Rattle.terms.specs.Reading.{top, taken}
 use Rattle.terms.specs.Term.{Term, Terms, functor, empty, more, size, size*}
+use Rattle.terms.specs.Bounds.{MEMBER}
 use Rattle.laws.specs.Equal.{equal, equal*, equal*-more, kernels-equal, is-empty, is-this-functor, tests}
 use Rattle.laws.specs.Values.{value, value*}
 use Rattle.term_places.specs.Places.{terms-from, tree, end, Held, values, valued, Placed, Known}
@@ -75,14 +76,14 @@ module _ {h : Held} (placed : Placed h) where
 
   -- ---- the two words
 
-  by-view : {p : ℕ} → Known h p → (getD (h .words) p 0 ≡ 1 → ⊥) → View (h .bounds) (h .arities) (length (h .starts)) (h .words) p → Kernel h p
+  by-view : {p : ℕ} → Known h p → (getD (h .words) p 0 ≡ MEMBER → ⊥) → View (h .bounds) (h .arities) (length (h .starts)) (h .words) p → Kernel h p
   unfolding valued value arguments following taken
   by-view known c (sees-empty e s) = kernel-empty e (rw s) (rw (e, takes-empty (placed .terms .limits .proper) (h .arities)))
   by-view known c (sees-member e a b s) = absurd (c e)
   by-view known c (sees-unknown {i = i} e l s) = absurd (known .no-unknown i l e)
   by-view known c (sees-functor {k = k} e l s) = kernel-functor e (rw (s, e, takes-functor (placed .terms .limits .proper) (h .arities) k (omega (arith, placed .terms .limits .functors))))
 
-  pub kernel-at : {p : ℕ} → Known h p → (getD (h .words) p 0 ≡ 1 → ⊥) → Kernel h p
+  pub kernel-at : {p : ℕ} → Known h p → (getD (h .words) p 0 ≡ MEMBER → ⊥) → Kernel h p
   kernel-at {p} known c = by-view known c (view (placed .terms) p (known .inside))
 
   kernel-size : {p : ℕ} → Kernel h p → size* (arguments h (p + 1) (following h p)) < size (valued h p)
@@ -90,7 +91,7 @@ module _ {h : Held} (placed : Placed h) where
   kernel-size (kernel-empty e s f) = rw (s, f) (omega arith)
   kernel-size (kernel-functor e s) = rw s (omega arith)
 
-  pub left-first : {p : ℕ} → Known h p → (getD (h .words) p 0 ≡ 1 → ⊥) → Left h p (p + 1) (following h p)
+  pub left-first : {p : ℕ} → Known h p → (getD (h .words) p 0 ≡ MEMBER → ⊥) → Left h p (p + 1) (following h p)
   unfolding extent size taken end following
   left-first {p} known c = record { within = go (view (placed .terms) p (known .inside)); smaller = kernel-size (kernel-at known c) }
     where

@@ -7,6 +7,7 @@ use lib.Dec.{eqb}
 use lib.ListN.{length, getD}
 use Rattle.terms.specs.Lists.{all, any}
 use Rattle.terms.specs.Term.{Term, members}
+use Rattle.terms.specs.Bounds.{MEMBER}
 use Rattle.laws.specs.Equal.{equal, is-in, each-in}
 use Rattle.term_places.specs.Places.{Held, valued, Placed, Known, Has}
 
@@ -80,8 +81,8 @@ pub record Comparing (h : Held) (labels : List ℕ) (p q : ℕ) : Type 0 where
 -- two kernels
 pub record ComparingKernels (h : Held) (labels : List ℕ) (p q : ℕ) : Type 0 where
   pub comparing : Comparing h labels p q
-  pub left-closed : getD (h .words) p 0 ≡ 1 → ⊥
-  pub right-closed : getD (h .words) q 0 ≡ 1 → ⊥
+  pub left-closed : getD (h .words) p 0 ≡ MEMBER → ⊥
+  pub right-closed : getD (h .words) q 0 ≡ MEMBER → ⊥
 
 -- every member at p was compared with every one at q; with one of q's, the one at m
 pub record Compared (h : Held) (labels : List ℕ) (p q : ℕ) : Type 0 where

@@ -8,6 +8,7 @@ use native.Mathlib.Omega.{arith}
 use lib.ListN.{getD}
 use Rattle.terms.specs.Lists.{all, any}
 use Rattle.terms.specs.Term.{Term, members, kernel, size}
+use Rattle.terms.specs.Bounds.{MEMBER}
 use Rattle.laws.specs.Equal.{equal, is-in, each-in}
 use Rattle.term_places.specs.Places.{Held, valued, Has, first, later, member-of, rest-of}
 use Rattle.term_places.specs.Classes.{some-equals, each-equalled}
@@ -70,6 +71,6 @@ pub has-open : {h : Held} {p x : ℕ} → Has h p x → (member-of h p ≡ x) �
 has-open (first e) = inl refl
 has-open (later e l) = inr l
 
-pub has-closed : {P : Type 0} {h : Held} {p x : ℕ} → (getD (h .words) p 0 ≡ 1 → ⊥) → Has h p x → P
+pub has-closed : {P : Type 0} {h : Held} {p x : ℕ} → (getD (h .words) p 0 ≡ MEMBER → ⊥) → Has h p x → P
 has-closed c (first e) = absurd (c e)
 has-closed c (later e l) = absurd (c e)

@@ -8,6 +8,7 @@ use lib.ListN.{length, getD}
 use Rattle.terms.specs.Formed.{Formed, Formed*, formed-unknown, formed-empty, formed-with, formed-functor, formed-none, formed-more}
 use Rattle.terms.specs.Kind.{kind, kind-unknown, kind-functor, apart-words}
 use Rattle.terms.specs.Term.{Term, Terms, unknown, with, functor, more, members, kernel}
+use Rattle.terms.specs.Bounds.{MEMBER}
 use Rattle.laws.specs.Values.{Values, value, value*}
 use Rattle.term_places.specs.Places.{tree, end, Held, values, valued, Placed, Known, on-to, resolved, Resolvable, member-of, rest-of}
 use Rattle.term_places.specs.Standing.{View, sees-empty, sees-member, sees-unknown, sees-functor, view}
@@ -107,7 +108,7 @@ module _ {h : Held} (placed : Placed h) where
 
   -- ---- a set is opened
 
-  pub opened : (p : ℕ) → p < length (h .words) → getD (h .words) p 0 ≡ 1 → Opened h p
+  pub opened : (p : ℕ) → p < length (h .words) → getD (h .words) p 0 ≡ MEMBER → Opened h p
   unfolding valued value member-of rest-of
   opened p inside m = go (view (placed .terms) p inside)
     where
@@ -128,7 +129,7 @@ module _ {h : Held} (placed : Placed h) where
 
   -- ---- any other known place is closed
 
-  pub closed : (p : ℕ) → Known h p → (getD (h .words) p 0 ≡ 1 → ⊥) → Closed h p
+  pub closed : (p : ℕ) → Known h p → (getD (h .words) p 0 ≡ MEMBER → ⊥) → Closed h p
   unfolding valued value members kernel
   closed p known m = go (view (placed .terms) p (known .inside))
     where

@@ -4,7 +4,7 @@ use Prim.Native.Nat.{ℕ, _+_, _*_, _<_, _≤_}
 use mathlib.Core.Path.{_≡_}
 use mathlib.Core.List.{List}
 use lib.ListN.{length, getD, drop}
-use Rattle.terms.specs.Bounds.{Bounds, edition-one, SYMBOLS}
+use Rattle.terms.specs.Bounds.{Bounds, edition-one, SYMBOLS, MEMBER}
 use Rattle.terms.specs.Kind.{Kind, of-empty, of-member, of-unknown, of-functor, of-nothing, kind, Worded}
 use Rattle.terms.specs.Lists.{All}
 use Rattle.terms.specs.Term.{Term, size, kernel}
@@ -89,8 +89,8 @@ rest-of h p = resolved (h .bounds) (h .words) (h .starts) (end (h .bounds) (h .a
 
 -- x is the place of a member of the set at p
 pub data Has (h : Held) : ℕ → ℕ → Type 0 where
-  first : {p : ℕ} → getD (h .words) p 0 ≡ 1 → Has h p (member-of h p)
-  later : {p x : ℕ} → getD (h .words) p 0 ≡ 1 → Has h (rest-of h p) x → Has h p x
+  first : {p : ℕ} → getD (h .words) p 0 ≡ MEMBER → Has h p (member-of h p)
+  later : {p x : ℕ} → getD (h .words) p 0 ≡ MEMBER → Has h (rest-of h p) x → Has h p x
 
 -- ---- what the steps of a comparison start from
 
@@ -102,10 +102,10 @@ pub record AtPlace (h : Held) (p : ℕ) : Type 0 where
 pub record AtMember (h : Held) (p : ℕ) : Type 0 where
   pub placed : Placed h
   pub inside : p < length (h .words)
-  pub member : getD (h .words) p 0 ≡ 1
+  pub member : getD (h .words) p 0 ≡ MEMBER
 
 -- k is the place of the kernel of the term at p
 pub record KernelOf (h : Held) (p k : ℕ) : Type 0 where
   pub known : Known h k
-  pub closed : getD (h .words) k 0 ≡ 1 → ⊥
+  pub closed : getD (h .words) k 0 ≡ MEMBER → ⊥
   pub kernel : valued h k ≡ kernel (valued h p)

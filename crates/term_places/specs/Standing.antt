@@ -7,7 +7,7 @@ use native.Mathlib.Omega.{arith}
 use native.Mathlib.Numerals.{add-one}
 use lib.ListN.{length, getD, drop, length-drop, length-append}
 use lib.Seq.{drop-cons, drop-drop, drop-at}
-use Rattle.terms.specs.Bounds.{Bounds}
+use Rattle.terms.specs.Bounds.{Bounds, MEMBER}
 use Rattle.terms.specs.Flat.{length-words, size-positive}
 use Rattle.terms.specs.Formed.{Formed, Formed*, formed-unknown, formed-empty, formed-with, formed-functor, formed-none, formed-more, row}
 use Rattle.terms.specs.Kind.{Kind, kind, kind-unknown, kind-functor}
@@ -88,7 +88,7 @@ module _ {b : Bounds} {arities : List ℕ} {n : ℕ} {ws : List ℕ} (t : Terms 
 
 pub data View (b : Bounds) (arities : List ℕ) (n : ℕ) (ws : List ℕ) (p : ℕ) : Type 0 where
   sees-empty : getD ws p 0 ≡ 0 → tree b arities ws p ≡ empty → View b arities n ws p
-  sees-member : getD ws p 0 ≡ 1 → p + 1 < length ws → end b arities ws (p + 1) < length ws
+  sees-member : getD ws p 0 ≡ MEMBER → p + 1 < length ws → end b arities ws (p + 1) < length ws
       → tree b arities ws p ≡ with (tree b arities ws (p + 1)) (tree b arities ws (end b arities ws (p + 1))) → View b arities n ws p
   sees-unknown : {i : ℕ} → getD ws p 0 ≡ b .first-unknown + i → i < n → tree b arities ws p ≡ unknown i → View b arities n ws p
   sees-functor : {k : ℕ} → getD ws p 0 ≡ b .first-functor + k → k < length arities
@@ -116,7 +116,7 @@ module _ {b : Bounds} {arities : List ℕ} {n : ℕ} {ws : List ℕ} (t : Terms 
   unfolding end size
   with-inside {m} {r} s = let w : p + size (with m r) ≤ length ws = rw s at (standing t p inside .within) in omega (arith, size-positive r)
 
-  view-member : getD ws p 0 ≡ 1 → tree b arities ws p ≡ with (tree b arities ws (p + 1)) (top (drop 1 (terms-from b arities ws (p + 1)))) → View b arities n ws p
+  view-member : getD ws p 0 ≡ MEMBER → tree b arities ws p ≡ with (tree b arities ws (p + 1)) (top (drop 1 (terms-from b arities ws (p + 1)))) → View b arities n ws p
   unfolding end tree top
   view-member e s =
       let m = with-inside s in

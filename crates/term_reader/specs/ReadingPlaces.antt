@@ -8,7 +8,7 @@ use mathlib.Core.List.{List, [], _∷_, _++_}
 use borrow.Author.Tests.{eqb-true, ltb-true, ltb-false}
 use lib.Dec.{eqb, leb, ltb}
 use lib.ListN.{length, getD}
-use Rattle.terms.specs.Bounds.{Bounds, BYTES}
+use Rattle.terms.specs.Bounds.{Bounds, BYTES, EMPTY, MEMBER}
 use Rattle.terms.specs.Lists.{All, none, both, cases}
 use Rattle.terms.specs.Refusal.{number as table-number}
 use Rattle.terms.specs.declared.refusal.Cause.{Cause}
@@ -122,7 +122,7 @@ module _ (b : Bounds) (s : List ℕ) where
   unfolding close-empty symbol
   close-placed P f p ws h =
       cases (ltb (length ws) (b .symbols))
-      (λ t. rw t (goes-on (p + 1) (omega arith) (omega arith) (f (ws ++ (0 ∷ [])))))
+      (λ t. rw t (goes-on (p + 1) (omega arith) (omega arith) (f (ws ++ (EMPTY ∷ [])))))
       (λ t. rw t (stops Limit p refl (omega arith)))
 
   pub member-placed : (P : Coming → Type 0) → ((ws : List ℕ) → P (due Member ws)) → (p : ℕ) (ws : List ℕ) → p ≤ length s → Placed s p P (due-member b s p ws)
@@ -131,7 +131,7 @@ module _ (b : Bounds) (s : List ℕ) where
       cases (begins (byte s p))
       (λ e.
       cases (ltb (length ws) (b .symbols))
-      (λ t. rw (e, t) (goes-on p (omega arith) h (f (ws ++ (1 ∷ [])))))
+      (λ t. rw (e, t) (goes-on p (omega arith) h (f (ws ++ (MEMBER ∷ [])))))
       (λ t. rw (e, t) (stops Limit p refl h)))
       (λ e. rw e (stops Byte p refl h))
 

@@ -21,6 +21,13 @@ pub record Bounds : Type 0 where
   pub symbols : ℕ
   pub nesting : ℕ
 
+-- the words of the empty set and of member adding, in every edition
+abbrev pub EMPTY : ℕ
+EMPTY = 0
+
+abbrev pub MEMBER : ℕ
+MEMBER = 1
+
 -- how many bytes there are; an arity is lent as one
 abbrev pub BYTES : ℕ
 BYTES = 256

@@ -9,7 +9,7 @@ use lib.Dec.{eqb, leb, ltb}
 use lib.ListN.{length, getD}
 use borrow.Author.Tests.{ne-eqb, lt-ltb, le-ltb, le-leb, lt-leb, eqb-true, leb-true, ltb-true}
 use Rattle.room.specs.Parts.{Apart, earlier, later}
-use Rattle.terms.specs.Bounds.{Bounds, Proper}
+use Rattle.terms.specs.Bounds.{Bounds, Proper, EMPTY, MEMBER}
 use Rattle.terms.specs.Lists.{cases, and-left, and-right, and-both}
 
 pub data Kind : Type 0 where
@@ -25,8 +25,8 @@ within first many w = leb first w && ltb w (first + many)
 
 unfoldable pub kind : Bounds → ℕ → Kind
 kind b w =
-    cond (eqb w 0) of-empty
-    (cond (eqb w 1) of-member
+    cond (eqb w EMPTY) of-empty
+    (cond (eqb w MEMBER) of-member
     (cond (within (b .first-unknown) (b .unknown-words) w) (of-unknown (w - b .first-unknown))
     (cond (within (b .first-functor) (b .functor-words) w) (of-functor (w - b .first-functor))
     of-nothing)))
@@ -34,15 +34,15 @@ kind b w =
 -- how many terms follow a word: the member and the rest, or the arguments
 unfoldable pub takes : Bounds → List ℕ → ℕ → ℕ
 takes b arities w =
-    cond (eqb w 1) 2
+    cond (eqb w MEMBER) 2
     (cond (within (b .first-unknown) (b .unknown-words) w) 0
     (cond (ltb w (b .first-functor)) 0 (getD arities (w - b .first-functor) 0)))
 
 -- ---- a kind tells its word
 
 pub data Means (b : Bounds) (w : ℕ) : Kind → Type 0 where
-  means-empty : w ≡ 0 → Means b w of-empty
-  means-member : w ≡ 1 → Means b w of-member
+  means-empty : w ≡ EMPTY → Means b w of-empty
+  means-member : w ≡ MEMBER → Means b w of-member
   means-unknown : {i : ℕ} → w ≡ b .first-unknown + i → i < b .unknown-words → Means b w (of-unknown i)
   means-functor : {k : ℕ} → w ≡ b .first-functor + k → k < b .functor-words → Means b w (of-functor k)
   means-nothing : Means b w of-nothing
@@ -61,8 +61,8 @@ within-many first many w t =
 pub means : (b : Bounds) (w : ℕ) → Means b w (kind b w)
 unfolding kind
 means b w =
-    cases (eqb w 0) (λ t. rw t (means-empty (eqb-true w 0 t)))
-    (λ s. cases (eqb w 1) (λ t. rw (s, t) (means-member (eqb-true w 1 t)))
+    cases (eqb w EMPTY) (λ t. rw t (means-empty (eqb-true w EMPTY t)))
+    (λ s. cases (eqb w MEMBER) (λ t. rw (s, t) (means-member (eqb-true w MEMBER t)))
     (λ r. cases (within (b .first-unknown) (b .unknown-words) w)
     (λ t. rw (s, r, t) (means-unknown {i = w - b .first-unknown} (let lo = within-from (b .first-unknown) (b .unknown-words) w t in omega arith) (within-many _ _ w t)))
     (λ q. cases (within (b .first-functor) (b .functor-words) w)
@@ -104,32 +104,32 @@ apart-words (later a) h l e = omega arith
 pub kind-nothing : (b : Bounds) (w : ℕ) → 2 ≤ w → within (b .first-unknown) (b .unknown-words) w ≡ false → within (b .first-functor) (b .functor-words) w ≡ false
     → kind b w ≡ of-nothing
 unfolding kind
-kind-nothing b w h u f = rw (ne-eqb w 0 (λ e. omega arith), ne-eqb w 1 (λ e. omega arith), u, f)
+kind-nothing b w h u f = rw (ne-eqb w EMPTY (λ e. omega arith), ne-eqb w MEMBER (λ e. omega arith), u, f)
 
 -- what follows a word, by where it lies: below the functors' words nothing but after the member mark, and from there on, where it is no unknown's, by the table
-module _ (b : Bounds) (arities : List ℕ) {w : ℕ} (n : w ≡ 1 → ⊥) where
+module _ (b : Bounds) (arities : List ℕ) {w : ℕ} (n : w ≡ MEMBER → ⊥) where
   pub takes-none : w < b .first-functor → takes b arities w ≡ 0
   unfolding takes
-  takes-none l = cases (within (b .first-unknown) (b .unknown-words) w) (λ t. rw (ne-eqb w 1 n, t)) (λ t. rw (ne-eqb w 1 n, t, lt-ltb w (b .first-functor) l))
+  takes-none l = cases (within (b .first-unknown) (b .unknown-words) w) (λ t. rw (ne-eqb w MEMBER n, t)) (λ t. rw (ne-eqb w MEMBER n, t, lt-ltb w (b .first-functor) l))
 
   pub takes-table : within (b .first-unknown) (b .unknown-words) w ≡ false → b .first-functor ≤ w → takes b arities w ≡ getD arities (w - b .first-functor) 0
   unfolding takes
-  takes-table u l = rw (ne-eqb w 1 n, u, le-ltb w (b .first-functor) l)
+  takes-table u l = rw (ne-eqb w MEMBER n, u, le-ltb w (b .first-functor) l)
 
 module _ {b : Bounds} (proper : Proper b) where
   pub kind-unknown : (i : ℕ) → i < b .unknown-words → kind b (b .first-unknown + i) ≡ of-unknown i
   unfolding kind
   kind-unknown i h =
       let e : b .first-unknown + i - b .first-unknown ≡ i = omega arith in
-      rw (ne-eqb (b .first-unknown + i) 0 (λ e. omega arith), ne-eqb (b .first-unknown + i) 1 (λ e. omega arith), within-first (b .first-unknown) (b .unknown-words) i h, e)
+      rw (ne-eqb (b .first-unknown + i) EMPTY (λ e. omega arith), ne-eqb (b .first-unknown + i) MEMBER (λ e. omega arith), within-first (b .first-unknown) (b .unknown-words) i h, e)
 
   pub kind-functor : (k : ℕ) → k < b .functor-words → kind b (b .first-functor + k) ≡ of-functor k
   unfolding kind
   kind-functor k h =
       let e : b .first-functor + k - b .first-functor ≡ k = omega arith in
       rw (
-        ne-eqb (b .first-functor + k) 0 (λ e. omega arith),
-        ne-eqb (b .first-functor + k) 1 (λ e. omega arith),
+        ne-eqb (b .first-functor + k) EMPTY (λ e. omega arith),
+        ne-eqb (b .first-functor + k) MEMBER (λ e. omega arith),
         within-apart (proper .apart) h,
         within-first (b .first-functor) (b .functor-words) k h,
         e,
@@ -146,16 +146,16 @@ module _ {b : Bounds} (proper : Proper b) where
       rw e at (kind-functor (w - b .first-functor) (omega arith))
 
   module _ (arities : List ℕ) where
-    pub takes-empty : takes b arities 0 ≡ 0
+    pub takes-empty : takes b arities EMPTY ≡ 0
     takes-empty = takes-none b arities (λ e. omega arith) (omega arith)
 
-    pub takes-member : takes b arities 1 ≡ 2
+    pub takes-member : takes b arities MEMBER ≡ 2
     unfolding takes
     takes-member = refl
 
     pub takes-unknown : (i : ℕ) → i < b .unknown-words → takes b arities (b .first-unknown + i) ≡ 0
     unfolding takes
-    takes-unknown i h = rw (ne-eqb (b .first-unknown + i) 1 (λ e. omega arith), within-first (b .first-unknown) (b .unknown-words) i h)
+    takes-unknown i h = rw (ne-eqb (b .first-unknown + i) MEMBER (λ e. omega arith), within-first (b .first-unknown) (b .unknown-words) i h)
 
     pub takes-functor : (k : ℕ) → k < b .functor-words → takes b arities (b .first-functor + k) ≡ getD arities k 0
     takes-functor k h =

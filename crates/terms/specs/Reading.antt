@@ -5,7 +5,7 @@ use mathlib.Core.Path.{_≡_, refl, ap, sym, _∙_}
 use mathlib.Core.List.{List, [], _∷_, _++_, append-assoc, append-nil, append-cancel-left}
 use native.Mathlib.Omega.{arith}
 use lib.ListN.{getD, drop}
-use Rattle.terms.specs.Bounds.{Bounds}
+use Rattle.terms.specs.Bounds.{Bounds, EMPTY, MEMBER}
 use Rattle.terms.specs.Kind.{Kind, of-empty, of-member, of-unknown, of-functor, of-nothing, kind, kind-unknown, kind-functor, Worded}
 use Rattle.terms.specs.Lists.{All, none, both}
 use Rattle.terms.specs.Term.{Term, Terms, unknown, empty, with, functor, more, words, words*, list, count}
@@ -65,9 +65,9 @@ module _ {b : Bounds} {arities : List ℕ} {n : ℕ} (worded : Worded b arities 
 
     pub read-words : {t : Term} (ws : List ℕ) → Formed arities n t → read b arities (words b t ++ ws) ≡ t ∷ read b arities ws
     read-words ws (formed-unknown {i = i} h) = push-word b arities (b .first-unknown + i) ws (kind-unknown (worded .proper) i (omega arith)) refl
-    read-words ws formed-empty = push-word b arities 0 ws refl refl
+    read-words ws formed-empty = push-word b arities EMPTY ws refl refl
     read-words ws (formed-with {m = m} {r = r} f g) =
-        rw append-assoc (push-word b arities 1 (words b m ++ (words b r ++ ws)) {ts = m ∷ r ∷ read b arities ws} refl (read-words (words b r ++ ws) f ∙ ap (λ us. m ∷ us) (read-words ws g)))
+        rw append-assoc (push-word b arities MEMBER (words b m ++ (words b r ++ ws)) {ts = m ∷ r ∷ read b arities ws} refl (read-words (words b r ++ ws) f ∙ ap (λ us. m ∷ us) (read-words ws g)))
     read-words ws (formed-functor {k = k} {ts = ts} h e f) =
         push-word b arities (b .first-functor + k) (words* b ts ++ ws) (kind-functor (worded .proper) k (omega arith)) (read-words* ws f)
         ∙ rw (← e, taken-list ts (read b arities ws), drop-list ts (read b arities ws))

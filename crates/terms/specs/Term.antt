@@ -4,7 +4,7 @@ use Prim.Native.Nat.{ℕ, _+_, suc, max}
 use mathlib.Core.List.{List, [], _∷_, _++_}
 use mathlib.Core.Bool.{Bool, false, _||_, cond}
 use lib.Dec.{eqb}
-use Rattle.terms.specs.Bounds.{Bounds}
+use Rattle.terms.specs.Bounds.{Bounds, EMPTY, MEMBER}
 
 -- an unknown, the empty set, a member added to a rest, or a functor with its arguments
 mutual
@@ -22,8 +22,8 @@ mutual
 unfoldable mutual
   pub words : Bounds → Term → List ℕ
   words b (unknown i) = (b .first-unknown + i) ∷ []
-  words b empty = 0 ∷ []
-  words b (with m r) = 1 ∷ (words b m ++ words b r)
+  words b empty = EMPTY ∷ []
+  words b (with m r) = MEMBER ∷ (words b m ++ words b r)
   words b (functor k ts) = (b .first-functor + k) ∷ words* b ts
 
   pub words* : Bounds → Terms → List ℕ

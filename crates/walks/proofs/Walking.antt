@@ -7,7 +7,7 @@ use native.Mathlib.Numerals.{add-one, sub-one}
 use lib.ListN.{length, drop, getD, drop-of-length-le, length-drop}
 use lib.Seq.{drop-cons}
 use borrow.Author.Tests.{ne-eqb, eq-eqb}
-use Rattle.terms.specs.Bounds.{Bounds}
+use Rattle.terms.specs.Bounds.{Bounds, MEMBER}
 use Rattle.terms.specs.Kind.{takes, takes-none}
 use Rattle.terms.specs.Walk.{span, span-short}
 use Rattle.walks.specs.Occurrence.{in-terms, in-rest, no-terms}
@@ -50,9 +50,9 @@ module _ (b : Bounds) (arities ws : List ℕ) (p : ℕ) where
       rest-step x zero z g = absurd (omega arith)
       rest-step x (suc d) z g = rw (next, sub-one, e, ne-eqb (getD ws p 0) x g)
 
-      pub rest-arguments : (x d : ℕ) → d ≡ 0 → (getD ws p 0 ≡ x → ⊥) → (getD ws p 0 ≡ 1 → ⊥) → in-rest b arities x (drop p ws) d ≡ in-terms b arities x (drop (p + 1) ws) m
+      pub rest-arguments : (x d : ℕ) → d ≡ 0 → (getD ws p 0 ≡ x → ⊥) → (getD ws p 0 ≡ MEMBER → ⊥) → in-rest b arities x (drop p ws) d ≡ in-terms b arities x (drop (p + 1) ws) m
       unfolding in-rest
-      rest-arguments x d z g i = rw (next, z, ne-eqb (getD ws p 0) x g, ne-eqb (getD ws p 0) 1 i, e)
+      rest-arguments x d z g i = rw (next, z, ne-eqb (getD ws p 0) x g, ne-eqb (getD ws p 0) MEMBER i, e)
 
     -- the word that is looked for
     pub terms-here : (x d : ℕ) → 0 < d → getD ws p 0 ≡ x → in-terms b arities x (drop p ws) d ≡ Inside
@@ -70,10 +70,10 @@ module _ (b : Bounds) (arities ws : List ℕ) (p : ℕ) where
     rest-tail x d z g = rw (next, z, eq-eqb (getD ws p 0) x g)
 
     -- another word where a rest is due
-    pub rest-member : (x d : ℕ) → d ≡ 0 → (getD ws p 0 ≡ x → ⊥) → getD ws p 0 ≡ 1 → in-rest b arities x (drop p ws) d ≡ in-rest b arities x (drop (p + 1) ws) 1
+    pub rest-member : (x d : ℕ) → d ≡ 0 → (getD ws p 0 ≡ x → ⊥) → getD ws p 0 ≡ MEMBER → in-rest b arities x (drop p ws) d ≡ in-rest b arities x (drop (p + 1) ws) 1
     unfolding in-rest
     rest-member x d z g i = rw (next, z, ne-eqb (getD ws p 0) x g, eq-eqb (getD ws p 0) 1 i)
 
-    pub rest-end : (x d : ℕ) → d ≡ 0 → (getD ws p 0 ≡ x → ⊥) → (getD ws p 0 ≡ 1 → ⊥) → getD ws p 0 < b .first-functor → in-rest b arities x (drop p ws) d ≡ Absent
+    pub rest-end : (x d : ℕ) → d ≡ 0 → (getD ws p 0 ≡ x → ⊥) → (getD ws p 0 ≡ MEMBER → ⊥) → getD ws p 0 < b .first-functor → in-rest b arities x (drop p ws) d ≡ Absent
     unfolding in-rest
-    rest-end x d z g i l = rw (next, z, ne-eqb (getD ws p 0) x g, ne-eqb (getD ws p 0) 1 i, takes-none b arities i l) (no-terms b arities x (drop (p + 1) ws))
+    rest-end x d z g i l = rw (next, z, ne-eqb (getD ws p 0) x g, ne-eqb (getD ws p 0) MEMBER i, takes-none b arities i l) (no-terms b arities x (drop (p + 1) ws))

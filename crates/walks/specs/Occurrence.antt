@@ -7,7 +7,7 @@ use native.Mathlib.Omega.{arith}
 use lib.Dec.{eqb}
 use native.Mathlib.Nat.{add-zero, add-suc, zero-add}
 use borrow.Author.Tests.{ne-eqb}
-use Rattle.terms.specs.Bounds.{Bounds}
+use Rattle.terms.specs.Bounds.{Bounds, MEMBER, EMPTY}
 use Rattle.terms.specs.Kind.{takes, takes-empty, takes-member, takes-unknown, takes-functor, apart-words, Worded}
 use Rattle.terms.specs.Flat.{eqb-shift}
 use Rattle.terms.specs.Lists.{any, cases, cond-or}
@@ -37,7 +37,7 @@ in-terms b arities x (w ∷ ws) (suc due) = cond (eqb w x) Inside (in-terms b ar
 unfoldable pub in-rest : Bounds → List ℕ → ℕ → List ℕ → (due : ℕ) → Occurrence
 in-rest b arities x [] due = Absent
 in-rest b arities x (w ∷ ws) (suc due) = cond (eqb w x) Inside (in-rest b arities x ws (due + takes b arities w))
-in-rest b arities x (w ∷ ws) zero = cond (eqb w x) Tail (cond (eqb w 1) (in-rest b arities x ws 1) (in-terms b arities x ws (takes b arities w)))
+in-rest b arities x (w ∷ ws) zero = cond (eqb w x) Tail (cond (eqb w MEMBER) (in-rest b arities x ws 1) (in-terms b arities x ws (takes b arities w)))
 
 pub no-terms : (b : Bounds) (arities : List ℕ) (x : ℕ) (ws : List ℕ) → in-terms b arities x ws 0 ≡ Absent
 unfolding in-terms
@@ -90,21 +90,21 @@ module _ {b : Bounds} {arities : List ℕ} {n : ℕ} (worded : Worded b arities 
   in-rest-occurrence (formed-unknown {i = i} g) ws =
       rw (
         eqb-shift (b .first-unknown) i x,
-        ne-eqb (b .first-unknown + i) 1 (λ e. omega arith),
+        ne-eqb (b .first-unknown + i) MEMBER (λ e. omega arith),
         takes-unknown (worded .proper) arities i (omega arith),
         no-terms b arities (b .first-unknown + x) ws,
       )
   in-rest-occurrence formed-empty ws =
-      rw (ne-eqb 0 (b .first-unknown + x) (λ e. omega arith), takes-empty (worded .proper) arities, no-terms b arities (b .first-unknown + x) ws)
+      rw (ne-eqb EMPTY (b .first-unknown + x) (λ e. omega arith), takes-empty (worded .proper) arities, no-terms b arities (b .first-unknown + x) ws)
   in-rest-occurrence (formed-with {m = m} {r = r} f g) ws =
-      rw (ne-eqb 1 (b .first-unknown + x) (λ e. omega arith), append-assoc (words b m) (words b r) ws)
+      rw (ne-eqb MEMBER (b .first-unknown + x) (λ e. omega arith), append-assoc (words b m) (words b r) ws)
       (seek (in-rest b arities (b .first-unknown + x)) rest-word f (words b r ++ ws) 0
       ∙ ap (cond (occurs x m) Inside) (in-rest-occurrence g ws)
       ∙ sym (cond-or (occurs x m) (any (occurs x) (members r)) Inside (in-kernel x (kernel r))))
   in-rest-occurrence (formed-functor {k = k} {ts = ts} g e f) ws =
       rw (
         ne-eqb (b .first-functor + k) (b .first-unknown + x) (apart-words (worded .proper .apart) h (omega arith)),
-        ne-eqb (b .first-functor + k) 1 (λ e. omega arith),
+        ne-eqb (b .first-functor + k) MEMBER (λ e. omega arith),
         takes-functor (worded .proper) arities k (omega arith),
         ← e,
         ← (zero-add (count ts)),

@@ -9,7 +9,7 @@ use lib.ListN.{length, getD}
 use borrow.Author.Tests.{ne-eqb, lt-ltb, le-ltb, ltb-true, ltb-false}
 use Rattle.terms.specs.Lists.{cases}
 use Rattle.terms.specs.Lists as lists
-use Rattle.terms.specs.Bounds.{Bounds, Proper}
+use Rattle.terms.specs.Bounds.{Bounds, Proper, MEMBER}
 use Rattle.terms.specs.Kind.{within-first, within-before, within-apart}
 use Rattle.text.specs.Text.{choose}
 use Rattle.word_writer.specs.OpenBrackets.{Bracket}
@@ -69,7 +69,7 @@ module _ {b : Bounds} (arities : List ℕ) (proper : Proper b) where
   symbol-unknown i h =
       let z : b .first-unknown + i - b .first-unknown ≡ i = omega arith in
       rw (
-        ne-eqb (b .first-unknown + i) 1 (λ e. omega (arith, proper .unknowns-after-marks)),
+        ne-eqb (b .first-unknown + i) MEMBER (λ e. omega (arith, proper .unknowns-after-marks)),
         within-first (b .first-unknown) (b .unknown-words) i h,
         z,
       )
@@ -79,7 +79,7 @@ module _ {b : Bounds} (arities : List ℕ) (proper : Proper b) where
   symbol-functor k h =
       let z : b .first-functor + k - b .first-functor ≡ k = omega arith in
       rw (
-        ne-eqb (b .first-functor + k) 1 (λ e. omega (arith, proper .functors-after-marks)),
+        ne-eqb (b .first-functor + k) MEMBER (λ e. omega (arith, proper .functors-after-marks)),
         within-apart (proper .apart) h,
         le-ltb (b .first-functor + k) (b .first-functor) (omega arith),
         z,

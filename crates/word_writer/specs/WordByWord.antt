@@ -5,7 +5,7 @@ use mathlib.Core.Bool.{cond}
 use mathlib.Core.List.{List, [], _∷_, _++_}
 use lib.Dec.{eqb, ltb}
 use lib.ListN.{length, getD, drop}
-use Rattle.terms.specs.Bounds.{Bounds}
+use Rattle.terms.specs.Bounds.{Bounds, MEMBER}
 use Rattle.terms.specs.Kind.{within}
 use Rattle.text.specs.Text.{choose, unknown-name, functor-name}
 use Rattle.word_writer.specs.OpenBrackets.{Bracket, member, rest, tail, argument, closing, closed, Holds}
@@ -21,7 +21,7 @@ use Rattle.word_writer.specs.declared.put.Passage.the-variants.{To, TooD
 -- what a word stands for, in words that are known to form terms
 unfoldable pub symbol : Bounds → List ℕ → ℕ → Symbol
 symbol b arities w =
-    cond (eqb w 1) Adding
+    cond (eqb w MEMBER) Adding
     (cond (within (b .first-unknown) (b .unknown-words) w) (Unknown (w - b .first-unknown))
     (cond (ltb w (b .first-functor)) Empty
     (Functor (w - b .first-functor) (getD arities (w - b .first-functor) 0))))
