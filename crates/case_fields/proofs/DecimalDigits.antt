@@ -23,7 +23,12 @@ above-digits value byte l h = rw (le-ltb byte 48 l, lt-ltb 57 byte h)
 pub too-large : (value byte digit : ℕ) → 48 ≤ byte → byte ≤ 57 → digit ≡ byte - 48 → (18446744073709551615 - digit) / 10 < value → more value byte ≡ Malformed
 unfolding more
 too-large value byte digit l h d t =
-    rw (le-ltb byte 48 l, le-ltb 57 byte h, lt-ltb 18446744073709551615 (value * 10 + (byte - 48)) (omega (arith, div-add-mod' (18446744073709551615 - digit) 10, mod-lt (18446744073709551615 - digit) {m = 10} (omega arith))))
+    rw (
+      le-ltb byte 48 l,
+      le-ltb 57 byte h,
+      lt-ltb 18446744073709551615 (value * 10 + (byte - 48))
+          (omega (arith, div-add-mod' (18446744073709551615 - digit) 10, mod-lt (18446744073709551615 - digit) {m = 10} (omega arith))),
+    )
 
 pub one-more : (value byte digit : ℕ) → 48 ≤ byte → byte ≤ 57 → digit ≡ byte - 48 → value ≤ (18446744073709551615 - digit) / 10 → more value byte ≡ Value (value * 10 + digit)
 unfolding more

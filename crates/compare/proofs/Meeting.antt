@@ -87,7 +87,8 @@ module _ {h : Held} {before labels : List ℕ} {m q y : ℕ} {met : Bool} (w : M
           go (inl k) = inl (label-kept (w .since .classes) (s .told) (w .left .inside) (has-inside (w .placed) (w .right .inside) l) k)
           go (inr k) = here (has-open k)
 
-      on : {now : Bool} → (met || (r || is-in (valued h m) (members (valued h (rest-of h y))))) ≡ (now || is-in (valued h m) (members (valued h (rest-of h y)))) → Meeting h before after m q (rest-of h y) now
+      on : {now : Bool} → (met || (r || is-in (valued h m) (members (valued h (rest-of h y))))) ≡ (now || is-in (valued h m) (members (valued h (rest-of h y))))
+          → Meeting h before after m q (rest-of h y) now
       on {now} f =
           record {
             placed = w .placed;

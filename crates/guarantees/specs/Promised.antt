@@ -148,7 +148,8 @@ pub text-fits : (g : Question) → Good edition-one g → length (question-text 
 text-fits = question-length
 
 -- what write_question wrote, read_question reads back as the same question, into buffers that hold it
-pub written-then-read : (q : Posed) (n : ℕ) (buffer : List ℕ) → question-told q buffer ≡ writing.Length n → (arities words : List ℕ) → length (q .arities) ≤ length arities → length (q .words) ≤ length words
+pub written-then-read : (q : Posed) (n : ℕ) (buffer : List ℕ) → question-told q buffer ≡ writing.Length n → (arities words : List ℕ)
+    → length (q .arities) ≤ length arities → length (q .words) ≤ length words
     → Reads (take n (question-after q buffer)) q arities words
 written-then-read = texts.written-then-read
 

@@ -133,13 +133,15 @@ arity-same {declared} {k = k} e l = rw (e .begins) (sym (List·getD-append decla
 mutual
   unfolding value
 
-  pub value-formed : {declared table : List ℕ} {m n : ℕ} {σ : Values} → Extends declared table → ((i : ℕ) → i < n → Formed table m (σ i)) → {t : Term} → Formed declared n t → Formed table m (value σ t)
+  pub value-formed : {declared table : List ℕ} {m n : ℕ} {σ : Values} → Extends declared table → ((i : ℕ) → i < n → Formed table m (σ i)) → {t : Term}
+      → Formed declared n t → Formed table m (value σ t)
   value-formed e h (formed-unknown {i = i} l) = h i l
   value-formed e h formed-empty = formed-empty
   value-formed e h (formed-with f g) = formed-with (value-formed e h f) (value-formed e h g)
   value-formed {declared = d} {σ = σ} e h (formed-functor {k = k} {ts = ts} l c f) =
       formed-functor (below e l) (count-value σ ts ∙ c ∙ arity-same e l) (value*-formed e h f)
 
-  value*-formed : {declared table : List ℕ} {m n : ℕ} {σ : Values} → Extends declared table → ((i : ℕ) → i < n → Formed table m (σ i)) → {ts : Terms} → Formed* declared n ts → Formed* table m (value* σ ts)
+  value*-formed : {declared table : List ℕ} {m n : ℕ} {σ : Values} → Extends declared table → ((i : ℕ) → i < n → Formed table m (σ i)) → {ts : Terms}
+      → Formed* declared n ts → Formed* table m (value* σ ts)
   value*-formed e h formed-none = formed-none
   value*-formed e h (formed-more f g) = formed-more (value-formed e h f) (value*-formed e h g)

@@ -93,7 +93,8 @@ module _ {arities : List ℕ} {n : ℕ} (worded : Worded edition-two arities n) 
   term-ends : {t : Term} → Formed arities n t → (ws : List ℕ) → span edition-two arities (words edition-two t ++ ws) 1 ≡ size t
   term-ends = walk.term-ends worded
 
-  words-subst : (x : ℕ) → x < edition-two .unknown-words → (s : Term) {t : Term} → Formed arities n t → words edition-two (subst x s t) ≡ replaced (edition-two .first-unknown + x) (words edition-two s) (words edition-two t)
+  words-subst : (x : ℕ) → x < edition-two .unknown-words → (s : Term) {t : Term} → Formed arities n t
+      → words edition-two (subst x s t) ≡ replaced (edition-two .first-unknown + x) (words edition-two s) (words edition-two t)
   unfolding edition-two
   words-subst = flat.words-subst worded
 

@@ -135,7 +135,12 @@ module _ {b : Bounds} {arities : List ℕ} {n : ℕ} (worded : Worded b arities 
   functors : (k j : ℕ) (s : Step) → cond (eqb (b .first-functor + k) (b .first-functor + j)) (cond (eqb (b .first-functor + k) EMPTY) Drop (cond (eqb (b .first-functor + k) MEMBER) s Decompose)) Dead ≡ cond (eqb k j) Decompose Dead
   functors k j s =
       cases (eqb k j)
-      (λ e. rw (e, eq-eqb (b .first-functor + k) (b .first-functor + j) (ap (λ (i : ℕ). b .first-functor + i) (eqb-true k j e)), ne-eqb (b .first-functor + k) EMPTY (λ q. omega (arith, worded .proper .functors-after-marks)), ne-eqb (b .first-functor + k) MEMBER (λ q. omega (arith, worded .proper .functors-after-marks))))
+      (λ e. rw (
+        e,
+        eq-eqb (b .first-functor + k) (b .first-functor + j) (ap (λ (i : ℕ). b .first-functor + i) (eqb-true k j e)),
+        ne-eqb (b .first-functor + k) EMPTY (λ q. omega (arith, worded .proper .functors-after-marks)),
+        ne-eqb (b .first-functor + k) MEMBER (λ q. omega (arith, worded .proper .functors-after-marks)),
+      ))
       (λ e. rw (e, ne-eqb (b .first-functor + k) (b .first-functor + j) (λ q. eqb-false k j e (omega arith))))
 
   differ : (l r : ℕ) (s : Step) → (l ≡ r → ⊥) → cond (eqb l r) s Dead ≡ Dead

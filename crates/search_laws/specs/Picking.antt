@@ -178,7 +178,12 @@ module _ (k : Tails) (t u : Term) (st : State) where
       → settle k (kernel t) (kernel u) (joining (chosen unread P ds)) (joining (chosen unread Q es)) (new-equations (chosen unread P ds) ++ new-equations (chosen unread Q es)) st ≡ child-of ds es
   unfolding child-of
   settled h g =
-      rw (joining-chosen left-pair (is-unknown (kernel u)) us ts h, joining-chosen right-pair (is-unknown (kernel t)) ts us g, equations-chosen left-pair (is-unknown (kernel u)) us ts h, equations-chosen right-pair (is-unknown (kernel t)) ts us g)
+      rw (
+        joining-chosen left-pair (is-unknown (kernel u)) us ts h,
+        joining-chosen right-pair (is-unknown (kernel t)) ts us g,
+        equations-chosen left-pair (is-unknown (kernel u)) us ts h,
+        equations-chosen right-pair (is-unknown (kernel t)) ts us g,
+      )
 
   first-of : {ds es : List ℕ} → Digits t-radices ds → Digits u-radices es → (l : List Node) × (drop (child-number ds es) (split k t u st) ≡ child-of ds es ∷ l)
   unfolding child-number

@@ -114,7 +114,9 @@ module _ {arities : List ℕ} {limits : Limits} {l a : List ℕ} {level shown : 
   unfolding back-to
   turned-spent {k} {shown₁} {l₁} C D = go (C .tells)
     where
-      up : (path : List Open) (n : ℕ) → length path ≡ n → Rows arities (limits .size) (r .visited) l path → Desk l₁ (limits .size) (scratch-of limits) path shown₁ → n * stride (limits .size) ≤ level * stride (limits .size) + stride (limits .size) → n ≤ limits .depth + 1 → k ≤ limits .steps - r .visited
+      up : (path : List Open) (n : ℕ) → length path ≡ n → Rows arities (limits .size) (r .visited) l path
+          → Desk l₁ (limits .size) (scratch-of limits) path shown₁ → n * stride (limits .size) ≤ level * stride (limits .size) + stride (limits .size)
+          → n ≤ limits .depth + 1 → k ≤ limits .steps - r .visited
           → level ≡ n → to ≡ given (counted r k) a (remains limits (counted r k) (length a) (to-come (limits .depth) path)) → Turned arities limits l₁ a level r to (back-to n (counted r k)) shown₁
       up [] n e Rs S w d f same g =
           rw (sym e) (ends (g ∙ ap (λ vs. given (counted r k) a (remains limits (counted r k) (length a) vs)) (nothing-to-come (limits .depth)) ∙ done-here limits (counted r k) a))

@@ -48,7 +48,8 @@ pub record Left (arities words : List ℕ) (from : ℕ) (text₀ : List ℕ) (at
   pub kept : length text ≡ length text₀
   pub short : length text ≤ most
   pub reach : next ≤ most
-  pub passes : (r : Passage) (last : List ℕ) → Passed text next (walk.walk edition-one arities p (drop p words) (brackets stack depth)) r last → Passed text₀ at (term-at edition-one arities words from) r last
+  pub passes : (r : Passage) (last : List ℕ) → Passed text next (walk.walk edition-one arities p (drop p words) (brackets stack depth)) r last
+      → Passed text₀ at (term-at edition-one arities words from) r last
 
 pub all-left : (arities words : List ℕ) (from : ℕ) (text : List ℕ) (at : ℕ) (stack : List ℕ) → length stack ≡ NESTING → length text ≤ most → at ≤ most
     → Left arities words from text at text stack 0 at from
@@ -101,6 +102,7 @@ module _ {arities words text₀ text stack : List ℕ} {from at depth next p : �
         passes = λ r last q. left .passes r last (passed-as (sym (then ∙ ap (prepend (on .bytes)) (still (pen .depth) n))) (passed-after (on .wrote) q));
       }
         where
-          still : (d : ℕ) → (d ≡ 0 → ⊥) → onward (p + 1) (walk.walk edition-one arities (p + 1) (drop (p + 1) words)) (brackets stack′ d) ≡ walk.walk edition-one arities (p + 1) (drop (p + 1) words) (brackets stack′ d)
+          still : (d : ℕ) → (d ≡ 0 → ⊥)
+              → onward (p + 1) (walk.walk edition-one arities (p + 1) (drop (p + 1) words)) (brackets stack′ d) ≡ walk.walk edition-one arities (p + 1) (drop (p + 1) words) (brackets stack′ d)
           still zero n = absurd (n refl)
           still (suc d) n = refl

@@ -46,7 +46,8 @@ module _ (b : Bounds) {arities : List ℕ} {n : ℕ} (short : Short arities n) w
         omega arith,
       )
 
-  answers-length : (l : List (List Named)) → All (All (Bound arities n)) l → length (list-words b l) ≤ LIST-WORDS → (length (answer-lines l) ≤ 14 * length (list-words b l)) × (length l ≤ length (list-words b l))
+  answers-length : (l : List (List Named)) → All (All (Bound arities n)) l → length (list-words b l) ≤ LIST-WORDS
+      → (length (answer-lines l) ≤ 14 * length (list-words b l)) × (length l ≤ length (list-words b l))
   unfolding answer-lines list-words listed answer-words
   answers-length [] fs h = (omega arith, omega arith)
   answers-length (xs ∷ l) (both f fs) h =

@@ -63,7 +63,8 @@ unfolding line
 line-length key value = simp length-append (omega arith)
 
 -- two lines an equation, 13 bytes beside the terms
-equations-length : (b : Bounds) {arities : List ℕ} {n : ℕ} → Short arities n → (es : List Equation) → All (Formed arities n) (sides es) → length (equation-lines es) ≤ 6 * length (row b (sides es)) + 13 * length es
+equations-length : (b : Bounds) {arities : List ℕ} {n : ℕ} → Short arities n → (es : List Equation) → All (Formed arities n) (sides es)
+    → length (equation-lines es) ≤ 6 * length (row b (sides es)) + 13 * length es
 unfolding equation-lines sides row
 equations-length b short [] fs = omega arith
 equations-length b short (e ∷ es) (both f (both g fs)) =

@@ -133,7 +133,8 @@ module _ {text₀ text stack′ : List ℕ} {at : ℕ} {r : Step} (limit : ℕ) 
   word-first (suc d) h b = absurd (omega arith)
 
   module _ (depth : ℕ) (some : 0 < depth) where
-    pub word-rest : getD stack (depth - 1) 0 ≡ 1 → Stepped text₀ at (continues limit s (brackets stack (depth - 1))) r stack′ text → Stepped text₀ at (word limit s (brackets stack depth)) r stack′ text
+    pub word-rest : getD stack (depth - 1) 0 ≡ 1 → Stepped text₀ at (continues limit s (brackets stack (depth - 1))) r stack′ text
+        → Stepped text₀ at (word limit s (brackets stack depth)) r stack′ text
     unfolding word bracket
     word-rest e b = stepped-as (rw (brackets-top stack depth some 1 e)) b
 

@@ -96,7 +96,8 @@ module _ {b : Bounds} {arities : List ℕ} {n : ℕ} (worded : Worded b arities 
   unfolding walk
   begun w ws p {bs} s e d = rw (e, word-due limit s d)
 
-  continued : (w : ℕ) (ws : List ℕ) (p : ℕ) (bs : List Bracket) (s : Symbol) → symbol b arities w ≡ s → walk b arities p (w ∷ ws) (rest ∷ bs) ≡ next (continues limit s bs) p (walk b arities (p + 1) ws)
+  continued : (w : ℕ) (ws : List ℕ) (p : ℕ) (bs : List Bracket) (s : Symbol) → symbol b arities w ≡ s
+      → walk b arities p (w ∷ ws) (rest ∷ bs) ≡ next (continues limit s bs) p (walk b arities (p + 1) ws)
   unfolding walk word
   continued w ws p bs s e = rw e
 
@@ -105,7 +106,8 @@ module _ {b : Bounds} {arities : List ℕ} {n : ℕ} (worded : Worded b arities 
   unfolding next finish
   single us ws p bs = record { is = prepend-append us (closing bs) _ ∙ sym (guard-none limit p _) }
 
-  opening : (us : List ℕ) (due : Bracket) (bs : List Bracket) (p : ℕ) (ws : List ℕ) → Part limit (next (opens limit us due bs) p (walk b arities (p + 1) ws)) p (suc (length bs) ∷ []) us (walk b arities (p + 1) ws (due ∷ bs))
+  opening : (us : List ℕ) (due : Bracket) (bs : List Bracket) (p : ℕ) (ws : List ℕ)
+      → Part limit (next (opens limit us due bs) p (walk b arities (p + 1) ws)) p (suc (length bs) ∷ []) us (walk b arities (p + 1) ws (due ∷ bs))
   opening us due bs p ws = record { is = next-opens limit us due bs p (walk b arities (p + 1) ws) }
 
   -- where the rest of a set is due: no tail, and a further member

@@ -39,7 +39,9 @@ same-length : tie.Need-same-length
 same-length c = ap length (c .before .before .copy-in .ensures) ∙ rw (length-put, length-set)
 
 returns : tie.Need-returns
-returns c = listed-so (c .before .before .before .before .before .before .before .before .args .row .now) (c .before .before .before .before .before .before .before .before .args .n) (c .before .before .before .before .before .before .before .before .args .answers .now) (c .before .before .before .before .before .before .before .before .args .used) (c .before .before .copy-in .ensures)
+returns c =
+    let start = c .before .before .before .before .before .before .before .before in
+    listed-so (start .args .row .now) (start .args .n) (start .args .answers .now) (start .args .used) (c .before .before .copy-in .ensures)
 
 pub list-answer-spec : {M : Type 1} → statement M
 list-answer-spec =

@@ -18,7 +18,10 @@ returns : tie.Need-returns
 returns c = pending-left (c .before .before .before .before .before .before .args .row .now) (c .before .before .read-header .ensures) (c .before .before .before .before .before .before .args .answers .now) (c .before .before .before .before .before .before .args .counts) (c .if1 .taken)
 
 returns-2 : tie.Need-returns-2
-returns-2 c = pile-left (c .before .before .before .before .before .before .before .before .args .row .now) (c .before .before .before .before .read-header .ensures) (c .before .before .before .before .before .before .before .before .args .answers .now) (c .before .before .before .before .before .before .before .before .args .counts) (c .if2 .taken)
+returns-2 c =
+    let at-read-header = c .before .before .before .before in
+    let start = at-read-header .before .before .before .before in
+    pile-left (start .args .row .now) (at-read-header .read-header .ensures) (start .args .answers .now) (start .args .counts) (c .if2 .taken)
 
 sub-if3 : tie.Need-sub-if3
 sub-if3 c = search needs
@@ -27,10 +30,21 @@ add-if3 : tie.Need-add-if3
 add-if3 c = omega (arith, within-row (c .before .before .before .before .before .before .before .before .args .row .now) (c .before .before .before .before .read-header .ensures) (c .before .before .before .before .before .before .before .before .pre) (c .before .before .if1 .left) (c .if2 .left))
 
 returns-3 : tie.Need-returns-3
-returns-3 c = too-long (c .before .before .before .before .before .before .before .before .before .args .row .now) (c .before .before .before .before .before .read-header .ensures) (c .before .before .before .before .before .before .before .before .before .args .answers .now) (c .before .before .before .before .before .before .before .before .before .args .counts) (c .before .before .before .if1 .left) (c .before .if2 .left) (within-row (c .before .before .before .before .before .before .before .before .before .args .row .now) (c .before .before .before .before .before .read-header .ensures) (c .before .before .before .before .before .before .before .before .before .pre) (c .before .before .before .if1 .left) (c .before .if2 .left)) (omega (arith, c .if3 .taken))
+returns-3 c =
+    let at-if1 = c .before .before .before in
+    let at-read-header = at-if1 .before .before in
+    let start = at-read-header .before .before .before .before in
+    too-long (start .args .row .now) (at-read-header .read-header .ensures) (start .args .answers .now) (start .args .counts) (at-if1 .if1 .left)
+    (c .before .if2 .left) (within-row (start .args .row .now) (at-read-header .read-header .ensures) (start .pre) (at-if1 .if1 .left) (c .before .if2 .left))
+    (omega (arith, c .if3 .taken))
 
 list-answer-requires : tie.Need-list-answer-requires
-list-answer-requires c κs = let w = within-row (c .before .before .before .before .before .before .before .before .before .before .args .row .now) (c .before .before .before .before .before .before .read-header .ensures) (c .before .before .before .before .before .before .before .before .before .before .pre) (c .before .before .before .before .if1 .left) (c .before .before .if2 .left) in (omega (arith, w), omega arith)
+list-answer-requires c κs =
+    let at-if1 = c .before .before .before .before in
+    let at-read-header = at-if1 .before .before in
+    let start = at-read-header .before .before .before .before in
+    let w = within-row (start .args .row .now) (at-read-header .read-header .ensures) (start .pre) (at-if1 .if1 .left) (c .before .before .if2 .left) in
+    (omega (arith, w), omega arith)
 
 add-with-answer : tie.Need-add-with-answer
 add-with-answer c = search needs
@@ -42,7 +56,17 @@ same-length : tie.Need-same-length
 same-length c = search needs
 
 returns-4 : tie.Need-returns-4
-returns-4 c = rw (c .with-answer .ensures) (held (c .before .before .before .before .before .before .before .before .before .before .before .before .before .before .args .row .now) (c .before .before .before .before .before .before .before .before .before .before .read-header .ensures) (c .before .before .before .before .before .before .before .before .before .before .before .before .before .before .args .answers .now) (c .before .before .before .before .before .before .before .before .before .before .before .before .before .before .args .counts) (c .before .before .before .before .before .before .before .before .if1 .left) (c .before .before .before .before .before .before .if2 .left) (within-row (c .before .before .before .before .before .before .before .before .before .before .before .before .before .before .args .row .now) (c .before .before .before .before .before .before .before .before .before .before .read-header .ensures) (c .before .before .before .before .before .before .before .before .before .before .before .before .before .before .pre) (c .before .before .before .before .before .before .before .before .if1 .left) (c .before .before .before .before .before .before .if2 .left)) (c .before .before .before .before .before .if3 .left) (c .before .before .before .list-answer .ensures))
+returns-4 c =
+    let at-list-answer = c .before .before .before in
+    let at-if3 = at-list-answer .before .before in
+    let at-if2 = at-if3 .before in
+    let at-if1 = at-if2 .before .before in
+    let at-read-header = at-if1 .before .before in
+    let start = at-read-header .before .before .before .before in
+    rw (c .with-answer .ensures)
+    (held (start .args .row .now) (at-read-header .read-header .ensures) (start .args .answers .now) (start .args .counts) (at-if1 .if1 .left)
+    (at-if2 .if2 .left) (within-row (start .args .row .now) (at-read-header .read-header .ensures) (start .pre) (at-if1 .if1 .left) (at-if2 .if2 .left))
+    (at-if3 .if3 .left) (at-list-answer .list-answer .ensures))
 
 pub note-spec : {M : Type 1} → statement M
 note-spec =

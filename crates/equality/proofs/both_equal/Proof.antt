@@ -22,7 +22,9 @@ slice-aggregate-all-hold-2 : tie.Need-slice-aggregate-all-hold-2
 slice-aggregate-all-hold-2 c = let b = c .before .before .blank .ensures in sym (length-take-le _ _ (omega (arith, two-short _ _ (c .before .before .before .before .before .pre))))
 
 all-hold-requires : tie.Need-all-hold-requires
-all-hold-requires c κs = let b = c .before .before .blank .ensures in two-equations _ _ (c .before .before .before .before .before .pre) (length-take-le _ _ (omega (arith, two-short _ _ (c .before .before .before .before .before .pre))))
+all-hold-requires c κs =
+    let start = c .before .before .before .before .before in
+    let b = c .before .before .blank .ensures in two-equations _ _ (start .pre) (length-take-le _ _ (omega (arith, two-short _ _ (start .pre))))
 
 returns : tie.Need-returns
 returns c = c .before .all-hold .ensures ∙ two-told _ _ (c .before .before .before .before .before .before .before .pre)

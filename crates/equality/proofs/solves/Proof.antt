@@ -17,11 +17,27 @@ enum-told-2 : tie.Need-enum-told-2
 enum-told-2 c = search needs
 
 values-solve-requires : tie.Need-values-solve-requires
-values-solve-requires c κs = (sym (c .before .before .before .before .before .check-question .ensures) ∙ c .before .before .before .enum-told .given .1, sym (c .before .before .check-row .ensures) ∙ c .enum-told2 .given .1)
+values-solve-requires c κs =
+    let at-enum-told = c .before .before .before in
+    let at-check-question = at-enum-told .before .before in (
+      sym (at-check-question .check-question .ensures) ∙ at-enum-told .enum-told .given .1,
+      sym (c .before .before .check-row .ensures) ∙ c .enum-told2 .given .1,
+    )
 
 returns : tie.Need-returns
 unfolding solves-answer solving-after
-returns c = rw (← (c .before .before .before .before .before .before .before .check-question .ensures), c .before .before .before .before .before .enum-told .given .1, ← (c .before .before .before .before .check-row .ensures), c .before .before .enum-told2 .given .1, ← (c .before .values-solve .ensures), c .if1 .taken)
+returns c =
+    let at-check-row = c .before .before .before .before in
+    let at-enum-told = at-check-row .before in
+    let at-check-question = at-enum-told .before .before in
+    rw (
+      ← (at-check-question .check-question .ensures),
+      at-enum-told .enum-told .given .1,
+      ← (at-check-row .check-row .ensures),
+      c .before .before .enum-told2 .given .1,
+      ← (c .before .values-solve .ensures),
+      c .if1 .taken,
+    )
 
 enum-known-refusal : tie.Need-enum-known-refusal
 enum-known-refusal c = search needs
@@ -31,11 +47,26 @@ enum-known-refusal-2 c = search needs
 
 returns-2 : tie.Need-returns-2
 unfolding solves-answer solving-after
-returns-2 c = rw (← (c .before .before .before .before .before .before .before .check-question .ensures), c .before .before .before .before .before .enum-told .given .1, ← (c .before .before .before .before .check-row .ensures), c .before .before .enum-told2 .given .1, ← (c .before .values-solve .ensures), c .if1 .left)
+returns-2 c =
+    let at-check-row = c .before .before .before .before in
+    let at-enum-told = at-check-row .before in
+    let at-check-question = at-enum-told .before .before in
+    rw (
+      ← (at-check-question .check-question .ensures),
+      at-enum-told .enum-told .given .1,
+      ← (at-check-row .check-row .ensures),
+      c .before .before .enum-told2 .given .1,
+      ← (c .before .values-solve .ensures),
+      c .if1 .left,
+    )
 
 returns-3 : tie.Need-returns-3
 unfolding solves-answer solving-after
-returns-3 c = rw (← (c .before .before .before .before .before .before .check-question .ensures), c .before .before .before .before .enum-told .given .1, ← (c .before .before .before .check-row .ensures), c .before .refusal .given .1)
+returns-3 c =
+    let at-check-row = c .before .before .before in
+    let at-enum-told = at-check-row .before in
+    let at-check-question = at-enum-told .before .before in
+    rw (← (at-check-question .check-question .ensures), at-enum-told .enum-told .given .1, ← (at-check-row .check-row .ensures), c .before .refusal .given .1)
 
 returns-4 : tie.Need-returns-4
 unfolding solves-answer solving-after

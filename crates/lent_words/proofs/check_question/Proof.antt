@@ -30,7 +30,11 @@ check-terms-requires c κs = search needs
 
 returns-4 : tie.Need-returns-4
 unfolding check-question counts-above above edition-one
-returns-4 c = c .check-terms .ensures ∙ simp (le-ltb _ _ (c .before .before .before .before .if1 .left), sym (c .before .before .before .above-limits .ensures) ∙ c .before .before .if2 .left, le-ltb _ _ (c .before .if3 .left))
+returns-4 c =
+    let at-above-limits = c .before .before .before in
+    let at-if1 = at-above-limits .before in
+    c .check-terms .ensures
+    ∙ simp (le-ltb _ _ (at-if1 .if1 .left), sym (at-above-limits .above-limits .ensures) ∙ c .before .before .if2 .left, le-ltb _ _ (c .before .if3 .left))
 
 pub check-question-spec : {M : Type 1} → statement M
 check-question-spec =

@@ -27,13 +27,26 @@ same-length : tie.Need-same-length
 same-length c = search needs
 
 returns : tie.Need-returns
-returns c = list-printed _ _ _ _ (c .before .before .before .before .before .before .before .wide .ensures ∙ c .before .before .before .before .before .before .before .before .number-of-end .ensures) (c .before .before .before .before .before .before .before .before .before .before .before .before .before .pre) (c .before .before .before .before .before .write-answers .ensures) (c .before .length .given .1)
+returns c =
+    let at-write-answers = c .before .before .before .before .before in
+    let at-wide = at-write-answers .before .before in
+    let at-number-of-end = at-wide .before in
+    let start = at-number-of-end .before .before .before .before .before in
+    list-printed _ _ _ _ (at-wide .wide .ensures ∙ at-number-of-end .number-of-end .ensures) (start .pre) (at-write-answers .write-answers .ensures)
+    (c .before .length .given .1)
 
 same-length-2 : tie.Need-same-length-2
 same-length-2 c = search needs
 
 returns-2 : tie.Need-returns-2
-returns-2 c = list-refused _ _ _ _ (c .before .before .before .before .before .before .before .before .before .before .before .wide .ensures ∙ c .before .before .before .before .before .before .before .before .before .before .before .before .number-of-end .ensures) (c .before .before .before .before .before .before .before .before .before .before .before .before .before .before .before .before .before .pre) (c .before .before .before .before .before .before .before .before .before .write-answers .ensures) (c .before .before .before .before .before .refusal .given .1) (c .before .before .print-refusal .ensures)
+returns-2 c =
+    let at-refusal = c .before .before .before .before .before in
+    let at-write-answers = at-refusal .before .before .before .before in
+    let at-wide = at-write-answers .before .before in
+    let at-number-of-end = at-wide .before in
+    let start = at-number-of-end .before .before .before .before .before in
+    list-refused _ _ _ _ (at-wide .wide .ensures ∙ at-number-of-end .number-of-end .ensures) (start .pre) (at-write-answers .write-answers .ensures)
+    (at-refusal .refusal .given .1) (c .before .before .print-refusal .ensures)
 
 pub print-list-spec : {M : Type 1} → statement M
 print-list-spec =

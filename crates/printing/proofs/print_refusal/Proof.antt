@@ -27,7 +27,12 @@ same-length : tie.Need-same-length
 same-length c = search needs
 
 returns : tie.Need-returns
-returns c = refusal-printed _ (c .before .before .before .before .before .before .before .before .wide .ensures ∙ c .before .before .before .before .before .before .before .before .before .number-of .ensures) (search needs) (c .before .before .before .before .before .before .before .before .before .before .before .before .before .pre) (c .before .before .before .before .before .before .before .put-number-line .ensures) (c .before .before .put-number-line2 .ensures)
+returns c =
+    refusal-printed _
+    (c .before .before .before .before .before .before .before .before .wide .ensures
+    ∙ c .before .before .before .before .before .before .before .before .before .number-of .ensures)
+    (search needs) (c .before .before .before .before .before .before .before .before .before .before .before .before .before .pre)
+    (c .before .before .before .before .before .before .before .put-number-line .ensures) (c .before .before .put-number-line2 .ensures)
 
 pub print-refusal-spec : {M : Type 1} → statement M
 print-refusal-spec =

@@ -25,7 +25,11 @@ enum-known-noted : tie.Need-enum-known-noted
 enum-known-noted c = search needs
 
 search-on-requires : tie.Need-search-on-requires
-search-on-requires c κs = (c .before .before .before .before .before .before .before .before .before .before .before .before .before .before .pre .0, root-held (c .before .before .before .before .before .before .before .before .before .before .before .before .before .before .pre .1) refl (c .before .before .before .before .before .before .before .note .ensures) (c .before .before .before .noted .given .1))
+search-on-requires c κs =
+    let at-noted = c .before .before .before in
+    let at-note = at-noted .before .before .before .before in
+    let start = at-note .before .before .before .before .before .before .before in
+    (start .pre .0, root-held (start .pre .1) refl (at-note .note .ensures) (at-noted .noted .given .1))
 
 enum-told : tie.Need-enum-told
 enum-told c = search needs

@@ -42,7 +42,12 @@ slice-aggregate-start c = sym (length-take-le _ _ (c .before .before .if1 .left)
 
 start-requires : tie.Need-start-requires
 unfolding needed
-start-requires c κs = asking _ (c .before .before .before .before .before .before .before .before .before .before .before .before .pre) (sym (c .before .before .before .before .before .before .before .check-question .ensures) ∙ c .before .before .before .before .before .enum-told .given .1) (length-take-le _ _ (c .before .before .if1 .left))
+start-requires c κs =
+    let at-enum-told = c .before .before .before .before .before in
+    let at-check-question = at-enum-told .before .before in
+    let start = at-check-question .before .before .before .before .before in
+    asking _ (start .pre) (sym (at-check-question .check-question .ensures) ∙ at-enum-told .enum-told .given .1)
+    (length-take-le _ _ (c .before .before .if1 .left))
 
 returns-2 : tie.Need-returns-2
 returns-2 c = faulty _ _ _ _ _ _ _ (sym (c .before .before .before .check-question .ensures) ∙ c .before .refusal .given .1)
@@ -55,7 +60,12 @@ same-length-2 c = search needs
 
 returns-3 : tie.Need-returns-3
 unfolding needed
-returns-3 c = fine-run _ _ _ _ _ _ _ (sym (c .before .before .before .before .before .before .before .before .before .before .before .before .check-question .ensures) ∙ c .before .before .before .before .before .before .before .before .before .before .enum-told .given .1) (c .before .before .before .before .before .before .before .if1 .left) (c .before .before .before .before .start .ensures)
+returns-3 c =
+    let at-start = c .before .before .before .before in
+    let at-if1 = at-start .before .before .before in
+    let at-enum-told = at-if1 .before .before .before in
+    let at-check-question = at-enum-told .before .before in
+    fine-run _ _ _ _ _ _ _ (sym (at-check-question .check-question .ensures) ∙ at-enum-told .enum-told .given .1) (at-if1 .if1 .left) (at-start .start .ensures)
 
 pub run-within-spec : {M : Type 1} → statement M
 run-within-spec =

@@ -13,10 +13,19 @@ returns-2 : tie.Need-returns-2
 returns-2 c = too-large (c .before .before .before .before .before .before .before .before .pre) (c .before .before .before .before .before .before .before .before .args .answers .now) (c .before .before .if1 .left) (c .if2 .taken)
 
 write-root-requires : tie.Need-write-root-requires
-write-root-requires c κs = (omega (arith, row-fits (c .before .before .before .before .before .before .before .before .before .pre .suits), c .before .if2 .left), (omega (arith, c .before .if2 .left, c .before .before .before .before .before .before .before .before .before .pre .suits .size), omega (arith, unknowns-small (c .before .before .before .before .before .before .before .before .before .pre))))
+write-root-requires c κs =
+    let start = c .before .before .before .before .before .before .before .before .before in (
+      omega (arith, row-fits (start .pre .suits), c .before .if2 .left),
+      (omega (arith, c .before .if2 .left, start .pre .suits .size), omega (arith, unknowns-small (start .pre))),
+    )
 
 enter-root-requires : tie.Need-enter-root-requires
-enter-root-requires c κs = (_, rooted-so (c .before .before .before .before .before .before .before .before .before .before .before .before .before .before .pre) (c .before .before .before .before .before .before .before .before .before .before .before .before .before .before .args .answers .now) (c .before .before .before .before .before .before .before .before .if1 .left) (c .before .before .before .before .before .before .if2 .left) (c .before .before .before .before .write-root .ensures))
+enter-root-requires c κs =
+    let at-write-root = c .before .before .before .before in
+    let at-if2 = at-write-root .before .before in
+    let at-if1 = at-if2 .before .before in
+    let start = at-if1 .before .before .before .before .before .before in
+    (_, rooted-so (start .pre) (start .args .answers .now) (at-if1 .if1 .left) (at-if2 .if2 .left) (at-write-root .write-root .ensures))
 
 same-length : tie.Need-same-length
 same-length c = search needs
@@ -25,7 +34,14 @@ same-length-2 : tie.Need-same-length-2
 same-length-2 c = search needs
 
 returns-3 : tie.Need-returns-3
-returns-3 c = c .before .before .before .before .enter-root .ensures _ (rooted-so (c .before .before .before .before .before .before .before .before .before .before .before .before .before .before .before .before .before .before .before .pre) (c .before .before .before .before .before .before .before .before .before .before .before .before .before .before .before .before .before .before .before .args .answers .now) (c .before .before .before .before .before .before .before .before .before .before .before .before .before .if1 .left) (c .before .before .before .before .before .before .before .before .before .before .before .if2 .left) (c .before .before .before .before .before .before .before .before .before .write-root .ensures))
+returns-3 c =
+    let at-enter-root = c .before .before .before .before in
+    let at-write-root = at-enter-root .before .before .before .before .before in
+    let at-if2 = at-write-root .before .before in
+    let at-if1 = at-if2 .before .before in
+    let start = at-if1 .before .before .before .before .before .before in
+    at-enter-root .enter-root .ensures _
+    (rooted-so (start .pre) (start .args .answers .now) (at-if1 .if1 .left) (at-if2 .if2 .left) (at-write-root .write-root .ensures))
 
 pub start-spec : {M : Type 1} → statement M
 start-spec =

@@ -29,7 +29,10 @@ array-share-prefix-words : tie.Need-array-share-prefix-words
 array-share-prefix-words c = question-taken (c .before .before .before .before .before .before .read-question .ensures) (c .before .before .unknowns .given .1) .count
 
 slice-aggregate-solve-words-2 : tie.Need-slice-aggregate-solve-words-2
-slice-aggregate-solve-words-2 c = sym (length-take-le _ _ (question-taken (c .before .before .before .before .before .before .before .read-question .ensures) (c .before .before .before .unknowns .given .1) .count))
+slice-aggregate-solve-words-2 c =
+    let at-unknowns = c .before .before .before in
+    let at-read-question = at-unknowns .before .before .before .before in
+    sym (length-take-le _ _ (question-taken (at-read-question .read-question .ensures) (at-unknowns .unknowns .given .1) .count))
 
 solve-words-requires : tie.Need-solve-words-requires
 solve-words-requires c κs = search needs
@@ -42,7 +45,10 @@ print-refusal-requires c κs = search needs
 
 returns : tie.Need-returns
 unfolding solved found
-returns c = rw (question-taken (c .before .before .before .before .before .before .before .before .before .read-question .ensures) (c .before .before .before .before .before .unknowns .given .1) .runs) (c .solve-words .ensures)
+returns c =
+    let at-unknowns = c .before .before .before .before .before in
+    let at-read-question = at-unknowns .before .before .before .before in
+    rw (question-taken (at-read-question .read-question .ensures) (at-unknowns .unknowns .given .1) .runs) (c .solve-words .ensures)
 
 returns-2 : tie.Need-returns-2
 unfolding solved found

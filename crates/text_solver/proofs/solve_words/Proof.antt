@@ -39,14 +39,20 @@ same-length c = search needs
 
 returns : tie.Need-returns
 unfolding of-words
-returns c = rw (run-ended _ _ _ _ (c .before .before .before .before .before .before .before .before .before .before .before .run .ensures) (c .before .before .before .before .before .before .before .ending .given .1) .1) (c .before .before .print-list .ensures)
+returns c =
+    let at-ending = c .before .before .before .before .before .before .before in
+    let at-run = at-ending .before .before .before .before in
+    rw (run-ended _ _ _ _ (at-run .run .ensures) (at-ending .ending .given .1) .1) (c .before .before .print-list .ensures)
 
 same-length-2 : tie.Need-same-length-2
 same-length-2 c = search needs
 
 returns-2 : tie.Need-returns-2
 unfolding of-words
-returns-2 c = rw (run-refused _ _ _ _ (c .before .before .before .before .before .before .before .before .before .run .ensures) (c .before .before .before .before .before .refusal .given .1)) (c .before .before .print-refusal .ensures)
+returns-2 c =
+    let at-refusal = c .before .before .before .before .before in
+    let at-run = at-refusal .before .before .before .before in
+    rw (run-refused _ _ _ _ (at-run .run .ensures) (at-refusal .refusal .given .1)) (c .before .before .print-refusal .ensures)
 
 pub solve-words-spec : {M : Type 1} → statement M
 solve-words-spec =

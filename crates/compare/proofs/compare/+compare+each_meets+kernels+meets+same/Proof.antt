@@ -111,33 +111,76 @@ compare-kernel-requires-2 t c κs = record { placed = c .before .before .before 
 
 compare-kernels-requires : (t : ℕ) → compare-lts.Need-kernels-requires (compare-claims t) (compare-at t) compare.Post
 compare-kernels-requires t c κs =
+    let start = c .before .before .before .before .before .before .before .before in
     let k = c .before .before .kernel .ensures in
     let l = c .before .kernel2 .ensures in
-    (omega (arith, c .before .before .before .before .before .before .before .before .pre .0, kernels-fall k l), (compare-kernels (c .before .before .before .before .before .before .before .before .pre .1 .0) k l, c .before .before .before .before .before .before .before .before .pre .1 .1))
+    (omega (arith, start .pre .0, kernels-fall k l), (compare-kernels (start .pre .1 .0) k l, start .pre .1 .1))
 
 compare-each-meets-requires : (t : ℕ) → compare-lts.Need-each-meets-requires (compare-claims t) (compare-at t) compare.Post
-compare-each-meets-requires t c κs = (omega (arith, c .before .before .before .before .before .before .before .before .before .before .before .before .before .pre .0), (compare-members (c .before .before .before .before .before .before .before .before .before .before .before .before .before .pre .1 .0) (c .before .before .before .before .before .before .before .kernel .ensures) (c .before .before .before .before .before .before .kernel2 .ensures) (c .before .before .before .before .kernels .ensures), settled-told (c .before .before .before .before .before .before .before .before .before .before .before .before .before .pre .1 .0 .classes) (c .before .before .before .before .kernels .ensures) (c .before .before .before .before .before .before .before .before .before .before .before .before .before .pre .1 .1)))
+compare-each-meets-requires t c κs =
+    let at-kernels = c .before .before .before .before in
+    let at-kernel2 = at-kernels .before .before in
+    let at-kernel = at-kernel2 .before in
+    let start = at-kernel .before .before .before .before .before .before in (
+      omega (arith, start .pre .0),
+      (
+        compare-members (start .pre .1 .0) (at-kernel .kernel .ensures) (at-kernel2 .kernel2 .ensures) (at-kernels .kernels .ensures),
+        settled-told (start .pre .1 .0 .classes) (at-kernels .kernels .ensures) (start .pre .1 .1),
+      ),
+    )
 
 compare-covers-requires : (t : ℕ) → compare-lts.Need-covers-requires (compare-claims t) (compare-at t) compare.Post
-compare-covers-requires t c κs = compare-back (c .before .before .before .before .before .before .before .before .before .before .before .before .before .before .before .before .before .before .pre .1 .0) (c .before .before .before .before .before .before .before .before .before .before .before .before .kernel .ensures) (c .before .before .before .before .before .before .before .before .before .before .before .kernel2 .ensures) (c .before .before .before .before .before .before .before .before .before .kernels .ensures) (c .before .before .before .before .before .before .if1 .taken) (c .before .before .before .before .each-meets .ensures) (c .before .if2 .taken)
+compare-covers-requires t c κs =
+    let at-each-meets = c .before .before .before .before in
+    let at-if1 = at-each-meets .before .before in
+    let at-kernels = at-if1 .before .before .before in
+    let at-kernel2 = at-kernels .before .before in
+    let at-kernel = at-kernel2 .before in
+    let start = at-kernel .before .before .before .before .before .before in
+    compare-back (start .pre .1 .0) (at-kernel .kernel .ensures) (at-kernel2 .kernel2 .ensures) (at-kernels .kernels .ensures) (at-if1 .if1 .taken)
+    (at-each-meets .each-meets .ensures) (c .before .if2 .taken)
 
 compare-same-length : (t : ℕ) → compare-lts.Need-same-length (compare-claims t) (compare-at t) compare.Post
-compare-same-length t c = c .before .before .before .before .before .each-meets .kept .1 .1 .1 .1 .0 ∙ c .before .before .before .before .before .before .before .before .before .before .kernels .kept .1 .1 .1 .1 .0
+compare-same-length t c =
+    let at-each-meets = c .before .before .before .before .before in
+    let at-kernels = at-each-meets .before .before .before .before .before in
+    at-each-meets .each-meets .kept .1 .1 .1 .1 .0 ∙ at-kernels .kernels .kept .1 .1 .1 .1 .0
 
 compare-returns : (t : ℕ) → compare-lts.Need-returns (compare-claims t) (compare-at t) compare.Post
-compare-returns t c = compared (c .before .before .before .before .before .before .before .before .before .before .before .before .before .before .before .before .before .before .before .pre .1 .0) (c .before .before .before .before .before .before .before .before .before .before .before .before .before .kernel .ensures) (c .before .before .before .before .before .before .before .before .before .before .before .before .kernel2 .ensures) (c .before .before .before .before .before .before .before .before .before .before .kernels .ensures) (c .before .before .before .before .before .before .before .if1 .taken) (c .before .before .before .before .before .each-meets .ensures) (c .before .before .if2 .taken) (c .covers .ensures)
+compare-returns t c =
+    let at-each-meets = c .before .before .before .before .before in
+    let at-if1 = at-each-meets .before .before in
+    let at-kernels = at-if1 .before .before .before in
+    let at-kernel2 = at-kernels .before .before in
+    let at-kernel = at-kernel2 .before in
+    let start = at-kernel .before .before .before .before .before .before in
+    compared (start .pre .1 .0) (at-kernel .kernel .ensures) (at-kernel2 .kernel2 .ensures) (at-kernels .kernels .ensures) (at-if1 .if1 .taken)
+    (at-each-meets .each-meets .ensures) (c .before .before .if2 .taken) (c .covers .ensures)
 
 compare-same-length-2 : (t : ℕ) → compare-lts.Need-same-length-2 (compare-claims t) (compare-at t) compare.Post
 compare-same-length-2 t c = c .before .before .before .each-meets .kept .1 .1 .1 .1 .0 ∙ c .before .before .before .before .before .before .before .before .kernels .kept .1 .1 .1 .1 .0
 
 compare-returns-2 : (t : ℕ) → compare-lts.Need-returns-2 (compare-claims t) (compare-at t) compare.Post
-compare-returns-2 t c = members-no (c .before .before .before .before .before .before .before .before .before .before .before .before .before .before .before .before .before .pre .1 .0) (c .before .before .before .before .before .before .before .before .before .before .before .kernel .ensures) (c .before .before .before .before .before .before .before .before .before .before .kernel2 .ensures) (c .before .before .before .before .before .before .before .before .kernels .ensures) (c .before .before .before .before .before .if1 .taken) (c .before .before .before .each-meets .ensures) (c .if2 .left)
+compare-returns-2 t c =
+    let at-each-meets = c .before .before .before in
+    let at-if1 = at-each-meets .before .before in
+    let at-kernels = at-if1 .before .before .before in
+    let at-kernel2 = at-kernels .before .before in
+    let at-kernel = at-kernel2 .before in
+    let start = at-kernel .before .before .before .before .before .before in
+    members-no (start .pre .1 .0) (at-kernel .kernel .ensures) (at-kernel2 .kernel2 .ensures) (at-kernels .kernels .ensures) (at-if1 .if1 .taken)
+    (at-each-meets .each-meets .ensures) (c .if2 .left)
 
 compare-same-length-3 : (t : ℕ) → compare-lts.Need-same-length-3 (compare-claims t) (compare-at t) compare.Post
 compare-same-length-3 t c = c .before .before .before .kernels .kept .1 .1 .1 .1 .0
 
 compare-returns-3 : (t : ℕ) → compare-lts.Need-returns-3 (compare-claims t) (compare-at t) compare.Post
-compare-returns-3 t c = kernels-no (c .before .before .before .before .before .before .before .before .before .before .before .before .pre .1 .0) (c .before .before .before .before .before .before .kernel .ensures) (c .before .before .before .before .before .kernel2 .ensures) (c .before .before .before .kernels .ensures) (c .if1 .left)
+compare-returns-3 t c =
+    let at-kernels = c .before .before .before in
+    let at-kernel2 = at-kernels .before .before in
+    let at-kernel = at-kernel2 .before in
+    let start = at-kernel .before .before .before .before .before .before in
+    kernels-no (start .pre .1 .0) (at-kernel .kernel .ensures) (at-kernel2 .kernel2 .ensures) (at-kernels .kernels .ensures) (c .if1 .left)
 
 -- ---- each_meets
 
@@ -165,21 +208,30 @@ each-meets-resolve-requires t c κs = let i = c .before .before .before .loop .i
 each-meets-meets-requires : (t : ℕ) → each-meets-lts.Need-meets-requires (each-meets-claims t) (each-meets-at t) each-meets.Post each-meets-Inv-loop each-meets-μ-loop
 unfolding member-of
 each-meets-meets-requires t c κs =
-    let i = c .before .before .before .before .loop .inv in
+    let turn = c .before .before .before .before in
+    let start = turn .before .before .before .before .before .before in
+    let i = turn .loop .inv in
     let e = c .before .before .if1 .taken in
-    rw (c .resolve .ensures) (omega (arith, c .before .before .before .before .before .before .before .before .before .before .pre .0, matching-falls i e), (matching-asks i e, settled-since (i .since) (c .before .before .before .before .before .before .before .before .before .before .pre .1 .1)))
+    rw (c .resolve .ensures) (omega (arith, start .pre .0, matching-falls i e), (matching-asks i e, settled-since (i .since) (start .pre .1 .1)))
 
 each-meets-rest-requires : (t : ℕ) → each-meets-lts.Need-rest-requires (each-meets-claims t) (each-meets-at t) each-meets.Post each-meets-Inv-loop each-meets-μ-loop
 each-meets-rest-requires t c κs = matching-at (c .before .before .before .before .before .before .before .before .loop .inv) (c .before .before .before .before .before .before .if1 .taken)
 
 each-meets-loop-less : (t : ℕ) → each-meets-lts.Need-loop-less (each-meets-claims t) (each-meets-at t) each-meets.Post each-meets-Inv-loop each-meets-μ-loop
-each-meets-loop-less t c = rw (c .rest .ensures) (rest-smaller (matching-opened (c .before .before .before .before .before .before .before .before .before .loop .inv) (c .before .before .before .before .before .before .before .if1 .taken)))
+each-meets-loop-less t c =
+    let at-if1 = c .before .before .before .before .before .before .before in
+    let turn = at-if1 .before .before in
+    rw (c .rest .ensures) (rest-smaller (matching-opened (turn .loop .inv) (at-if1 .if1 .taken)))
 
 each-meets-loop-again : (t : ℕ) → each-meets-lts.Need-loop-again (each-meets-claims t) (each-meets-at t) each-meets.Post each-meets-Inv-loop each-meets-μ-loop
 unfolding member-of
 each-meets-loop-again t c =
-    let m = rw (c .before .before .before .before .before .resolve .ensures) at (c .before .before .before .before .meets .ensures) in
-    rw (c .rest .ensures) (matching-on (c .before .before .before .before .before .before .before .before .before .loop .inv) (c .before .before .before .before .before .before .before .if1 .taken) m (c .before .if2 .taken))
+    let at-meets = c .before .before .before .before in
+    let at-resolve = at-meets .before in
+    let at-if1 = at-resolve .before .before in
+    let turn = at-if1 .before .before in
+    let m = rw (at-resolve .resolve .ensures) at (at-meets .meets .ensures) in
+    rw (c .rest .ensures) (matching-on (turn .loop .inv) (at-if1 .if1 .taken) m (c .before .if2 .taken))
 
 each-meets-same-length : (t : ℕ) → each-meets-lts.Need-same-length (each-meets-claims t) (each-meets-at t) each-meets.Post each-meets-Inv-loop each-meets-μ-loop
 each-meets-same-length t c = c .before .before .before .meets .kept .1 .1 .1 .1 .0 ∙ since-length (c .before .before .before .before .before .before .before .before .loop .inv .since)
@@ -239,15 +291,22 @@ kernels-resolve-requires-2 t c κs = let i = c .before .before .before .loop .in
 
 kernels-same-requires : (t : ℕ) → kernels-lts.Need-same-requires (kernels-claims t) (kernels-at t) kernels.Post kernels-Inv-loop kernels-μ-loop
 kernels-same-requires t c κs =
-    let i = c .before .before .before .before .loop .inv in
-    let z = c .before .before .before .loop-test .taken in
-    rw (c .before .resolve .ensures, c .resolve2 .ensures) (omega (arith, c .before .before .before .before .before .before .before .before .before .before .before .before .before .before .pre .0, arguing-falls i z), (arguing-asks i z, settled-since (i .since) (c .before .before .before .before .before .before .before .before .before .before .before .before .before .before .pre .1 .1)))
+    let turn = c .before .before .before in
+    let start = turn .before .before .before .before .before .before .before .before .before .before .before in
+    let i = turn .before .loop .inv in
+    let z = turn .loop-test .taken in
+    rw (c .before .resolve .ensures, c .resolve2 .ensures)
+    (omega (arith, start .pre .0, arguing-falls i z), (arguing-asks i z, settled-since (i .since) (start .pre .1 .1)))
 
 kernels-term-end-requires : (t : ℕ) → kernels-lts.Need-term-end-requires (kernels-claims t) (kernels-at t) kernels.Post kernels-Inv-loop kernels-μ-loop
-kernels-term-end-requires t c κs = let i = c .before .before .before .before .before .before .before .before .loop .inv in record { unknowns = _; terms = i .placed .terms; inside = left-inside i (c .before .before .before .before .before .before .before .loop-test .taken) }
+kernels-term-end-requires t c κs =
+    let turn = c .before .before .before .before .before .before .before in
+    let i = turn .before .loop .inv in record { unknowns = _; terms = i .placed .terms; inside = left-inside i (turn .loop-test .taken) }
 
 kernels-term-end-requires-2 : (t : ℕ) → kernels-lts.Need-term-end-requires-2 (kernels-claims t) (kernels-at t) kernels.Post kernels-Inv-loop kernels-μ-loop
-kernels-term-end-requires-2 t c κs = let i = c .before .before .before .before .before .before .before .before .before .loop .inv in record { unknowns = _; terms = i .placed .terms; inside = right-inside i (c .before .before .before .before .before .before .before .before .loop-test .taken) }
+kernels-term-end-requires-2 t c κs =
+    let turn = c .before .before .before .before .before .before .before .before in
+    let i = turn .before .loop .inv in record { unknowns = _; terms = i .placed .terms; inside = right-inside i (turn .loop-test .taken) }
 
 kernels-sub-due : (t : ℕ) → kernels-lts.Need-sub-due (kernels-claims t) (kernels-at t) kernels.Post kernels-Inv-loop kernels-μ-loop
 kernels-sub-due t c = search needs
@@ -257,8 +316,12 @@ kernels-loop-less t c = let z = c .before .before .before .before .before .befor
 
 kernels-loop-again : (t : ℕ) → kernels-lts.Need-loop-again (kernels-claims t) (kernels-at t) kernels.Post kernels-Inv-loop kernels-μ-loop
 kernels-loop-again t c =
-    let s = rw (c .before .before .before .before .before .before .before .resolve .ensures, c .before .before .before .before .before .before .resolve2 .ensures) at (c .before .before .before .before .before .same .ensures) in
-    rw (c .before .term-end .ensures, c .term-end2 .ensures) (arguing-on (c .before .before .before .before .before .before .before .before .before .before .loop .inv) (c .before .before .before .before .before .before .before .before .before .loop-test .taken) s (c .before .before .if2 .taken))
+    let at-same = c .before .before .before .before .before in
+    let at-resolve2 = at-same .before in
+    let at-resolve = at-resolve2 .before in
+    let turn = at-resolve .before .before in
+    let s = rw (at-resolve .resolve .ensures, at-resolve2 .resolve2 .ensures) at (at-same .same .ensures) in
+    rw (c .before .term-end .ensures, c .term-end2 .ensures) (arguing-on (turn .before .loop .inv) (turn .loop-test .taken) s (c .before .before .if2 .taken))
 
 kernels-same-length : (t : ℕ) → kernels-lts.Need-same-length (kernels-claims t) (kernels-at t) kernels.Post kernels-Inv-loop kernels-μ-loop
 kernels-same-length t c = c .before .before .before .same .kept .1 .1 .1 .1 .0 ∙ since-length (c .before .before .before .before .before .before .before .before .loop .inv .since)
@@ -300,33 +363,49 @@ meets-resolve-requires t c κs = let i = c .before .before .before .loop .inv in
 meets-same-requires : (t : ℕ) → meets-lts.Need-same-requires (meets-claims t) (meets-at t) meets.Post meets-Inv-loop meets-μ-loop
 unfolding member-of
 meets-same-requires t c κs =
-    let i = c .before .before .before .before .loop .inv in
+    let turn = c .before .before .before .before in
+    let start = turn .before .before .before .before .before .before in
+    let i = turn .loop .inv in
     let e = c .before .before .if1 .taken in
-    rw (c .resolve .ensures) (omega (arith, c .before .before .before .before .before .before .before .before .before .before .pre .0, meeting-falls i e), (meeting-asks i e, settled-since (i .since) (c .before .before .before .before .before .before .before .before .before .before .pre .1 .1)))
+    rw (c .resolve .ensures) (omega (arith, start .pre .0, meeting-falls i e), (meeting-asks i e, settled-since (i .since) (start .pre .1 .1)))
 
 meets-rest-requires : (t : ℕ) → meets-lts.Need-rest-requires (meets-claims t) (meets-at t) meets.Post meets-Inv-loop meets-μ-loop
 meets-rest-requires t c κs = meeting-at (c .before .before .before .before .before .before .before .before .loop .inv) (c .before .before .before .before .before .before .if1 .taken)
 
 meets-loop-less : (t : ℕ) → meets-lts.Need-loop-less (meets-claims t) (meets-at t) meets.Post meets-Inv-loop meets-μ-loop
-meets-loop-less t c = rw (c .rest .ensures) (rest-smaller (meeting-opened (c .before .before .before .before .before .before .before .before .before .loop .inv) (c .before .before .before .before .before .before .before .if1 .taken)))
+meets-loop-less t c =
+    let at-if1 = c .before .before .before .before .before .before .before in
+    let turn = at-if1 .before .before in
+    rw (c .rest .ensures) (rest-smaller (meeting-opened (turn .loop .inv) (at-if1 .if1 .taken)))
 
 meets-loop-again : (t : ℕ) → meets-lts.Need-loop-again (meets-claims t) (meets-at t) meets.Post meets-Inv-loop meets-μ-loop
 unfolding member-of
 meets-loop-again t c =
-    let s = rw (c .before .before .before .before .before .resolve .ensures) at (c .before .before .before .before .same .ensures) in
-    rw (c .rest .ensures) (meeting-yes (c .before .before .before .before .before .before .before .before .before .loop .inv) (c .before .before .before .before .before .before .before .if1 .taken) s (c .before .if2 .taken))
+    let at-same = c .before .before .before .before in
+    let at-resolve = at-same .before in
+    let at-if1 = at-resolve .before .before in
+    let turn = at-if1 .before .before in
+    let s = rw (at-resolve .resolve .ensures) at (at-same .same .ensures) in
+    rw (c .rest .ensures) (meeting-yes (turn .loop .inv) (at-if1 .if1 .taken) s (c .before .if2 .taken))
 
 meets-rest-requires-2 : (t : ℕ) → meets-lts.Need-rest-requires-2 (meets-claims t) (meets-at t) meets.Post meets-Inv-loop meets-μ-loop
 meets-rest-requires-2 t c κs = meeting-at (c .before .before .before .before .before .before .before .before .loop .inv) (c .before .before .before .before .before .before .if1 .taken)
 
 meets-loop-less-2 : (t : ℕ) → meets-lts.Need-loop-less-2 (meets-claims t) (meets-at t) meets.Post meets-Inv-loop meets-μ-loop
-meets-loop-less-2 t c = rw (c .rest2 .ensures) (rest-smaller (meeting-opened (c .before .before .before .before .before .before .before .before .before .loop .inv) (c .before .before .before .before .before .before .before .if1 .taken)))
+meets-loop-less-2 t c =
+    let at-if1 = c .before .before .before .before .before .before .before in
+    let turn = at-if1 .before .before in
+    rw (c .rest2 .ensures) (rest-smaller (meeting-opened (turn .loop .inv) (at-if1 .if1 .taken)))
 
 meets-loop-again-2 : (t : ℕ) → meets-lts.Need-loop-again-2 (meets-claims t) (meets-at t) meets.Post meets-Inv-loop meets-μ-loop
 unfolding member-of
 meets-loop-again-2 t c =
-    let s = rw (c .before .before .before .before .before .resolve .ensures) at (c .before .before .before .before .same .ensures) in
-    rw (c .rest2 .ensures) (meeting-no (c .before .before .before .before .before .before .before .before .before .loop .inv) (c .before .before .before .before .before .before .before .if1 .taken) s (c .before .if2 .left))
+    let at-same = c .before .before .before .before in
+    let at-resolve = at-same .before in
+    let at-if1 = at-resolve .before .before in
+    let turn = at-if1 .before .before in
+    let s = rw (at-resolve .resolve .ensures) at (at-same .same .ensures) in
+    rw (c .rest2 .ensures) (meeting-no (turn .loop .inv) (at-if1 .if1 .taken) s (c .before .if2 .left))
 
 meets-same-length : (t : ℕ) → meets-lts.Need-same-length (meets-claims t) (meets-at t) meets.Post meets-Inv-loop meets-μ-loop
 meets-same-length t c = since-length (c .before .before .loop .inv .since)
@@ -355,22 +434,38 @@ same-both-settled-requires : (t : ℕ) → same-lts.Need-both-settled-requires (
 same-both-settled-requires t c κs = search needs
 
 same-returns-2 : (t : ℕ) → same-lts.Need-returns-2 (same-claims t) (same-at t) same.Post
-same-returns-2 t c = let a = c .before .before .before .before .before .before .before .before .before .before .pre .1 in settled-apart (a .0) (a .1) (c .before .both-settled .ensures) (c .if2 .taken) (c .before .before .if1 .left)
+same-returns-2 t c =
+    let start = c .before .before .before .before .before .before .before .before .before .before in
+    let a = start .pre .1 in settled-apart (a .0) (a .1) (c .before .both-settled .ensures) (c .if2 .taken) (c .before .before .if1 .left)
 
 same-compare-requires : (t : ℕ) → same-lts.Need-compare-requires (same-claims t) (same-at t) same.Post
-same-compare-requires t c κs = (omega (arith, c .before .before .before .before .before .before .before .before .before .before .before .pre .0), (c .before .before .before .before .before .before .before .before .before .before .before .pre .1 .0, c .before .before .before .before .before .before .before .before .before .before .before .pre .1 .1))
+same-compare-requires t c κs =
+    let start = c .before .before .before .before .before .before .before .before .before .before .before in
+    (omega (arith, start .pre .0), (start .pre .1 .0, start .pre .1 .1))
 
 same-mul-old : (t : ℕ) → same-lts.Need-mul-old (same-claims t) (same-at t) same.Post
-same-mul-old t c = let a = c .before .before .before .before .before .before .before .before .before .before .before .before .before .before .before .pre .1 .0 in omega (arith, c .before .before .before .compare .ensures .classes .long, a .left .inside)
+same-mul-old t c =
+    let at-compare = c .before .before .before in
+    let start = at-compare .before .before .before .before .before .before .before .before .before .before .before .before in
+    let a = start .pre .1 .0 in omega (arith, at-compare .compare .ensures .classes .long, a .left .inside)
 
 same-slice-read-old : (t : ℕ) → same-lts.Need-slice-read-old (same-claims t) (same-at t) same.Post
-same-slice-read-old t c = let a = c .before .before .before .before .before .before .before .before .before .before .before .before .before .before .before .before .pre .1 .0 in rw (c .before .before .before .before .compare .ensures .classes .long) (a .left .inside)
+same-slice-read-old t c =
+    let at-compare = c .before .before .before .before in
+    let start = at-compare .before .before .before .before .before .before .before .before .before .before .before .before in
+    let a = start .pre .1 .0 in rw (at-compare .compare .ensures .classes .long) (a .left .inside)
 
 same-mul-new : (t : ℕ) → same-lts.Need-mul-new (same-claims t) (same-at t) same.Post
-same-mul-new t c = let a = c .before .before .before .before .before .before .before .before .before .before .before .before .before .before .before .before .pre .1 .0 in omega (arith, c .before .before .before .before .compare .ensures .classes .long, a .right .inside)
+same-mul-new t c =
+    let at-compare = c .before .before .before .before in
+    let start = at-compare .before .before .before .before .before .before .before .before .before .before .before .before in
+    let a = start .pre .1 .0 in omega (arith, at-compare .compare .ensures .classes .long, a .right .inside)
 
 same-slice-read-new : (t : ℕ) → same-lts.Need-slice-read-new (same-claims t) (same-at t) same.Post
-same-slice-read-new t c = let a = c .before .before .before .before .before .before .before .before .before .before .before .before .before .before .before .before .before .pre .1 .0 in rw (c .before .before .before .before .before .compare .ensures .classes .long) (a .right .inside)
+same-slice-read-new t c =
+    let at-compare = c .before .before .before .before .before in
+    let start = at-compare .before .before .before .before .before .before .before .before .before .before .before .before in
+    let a = start .pre .1 .0 in rw (at-compare .compare .ensures .classes .long) (a .right .inside)
 
 same-join-requires : (t : ℕ) → same-lts.Need-join-requires (same-claims t) (same-at t) same.Post
 same-join-requires t c κs = search needs
@@ -379,19 +474,44 @@ same-same-length : (t : ℕ) → same-lts.Need-same-length (same-claims t) (same
 same-same-length t c = c .before .before .join .kept .0 ∙ c .before .before .before .before .before .before .before .before .before .compare .kept .1 .1 .1 .1 .0
 
 same-returns-3 : (t : ℕ) → same-lts.Need-returns-3 (same-claims t) (same-at t) same.Post
-same-returns-3 t c = now-same (c .before .before .before .before .before .before .before .before .before .before .before .before .before .before .before .before .before .before .before .before .before .pre .1 .0) (c .before .before .before .before .before .before .before .before .before .compare .ensures) (c .before .before .before .before .before .before .if3 .taken) (c .before .before .join .ensures)
+same-returns-3 t c =
+    let at-if3 = c .before .before .before .before .before .before in
+    let at-compare = at-if3 .before .before .before in
+    let start = at-compare .before .before .before .before .before .before .before .before .before .before .before .before in
+    now-same (start .pre .1 .0) (at-compare .compare .ensures) (at-if3 .if3 .taken) (c .before .before .join .ensures)
 
 same-same-length-2 : (t : ℕ) → same-lts.Need-same-length-2 (same-claims t) (same-at t) same.Post
 same-same-length-2 t c = c .before .before .before .compare .kept .1 .1 .1 .1 .0
 
 same-returns-4 : (t : ℕ) → same-lts.Need-returns-4 (same-claims t) (same-at t) same.Post
-same-returns-4 t c = not-same (c .before .before .before .before .before .before .before .before .before .before .before .before .before .before .before .pre .1 .0) (c .before .before .before .compare .ensures) (c .if3 .left)
+same-returns-4 t c =
+    let at-compare = c .before .before .before in
+    let start = at-compare .before .before .before .before .before .before .before .before .before .before .before .before in
+    not-same (start .pre .1 .0) (at-compare .compare .ensures) (c .if3 .left)
 
 pub +compare+each-meets+kernels+meets+same-spec : {M : Type 1} → statement M
 +compare+each-meets+kernels+meets+same-spec =
     close μ-compare μ-each-meets μ-kernels μ-meets μ-same
-    (λ t. compare-lts.spec (compare-claims t) (compare-at t) compare.Post (compare-kernel-requires t) (compare-kernel-requires-2 t) (compare-kernels-requires t) (compare-each-meets-requires t) (compare-covers-requires t) (compare-same-length t) (compare-returns t) (compare-same-length-2 t) (compare-returns-2 t) (compare-same-length-3 t) (compare-returns-3 t))
-    (λ t. each-meets-lts.spec (each-meets-claims t) (each-meets-at t) each-meets.Post each-meets-Inv-loop each-meets-μ-loop (each-meets-loop-holds t) (each-meets-mul-if1 t) (each-meets-shared-slice-read-if1 t) (each-meets-add-resolve t) (each-meets-resolve-requires t) (each-meets-meets-requires t) (each-meets-rest-requires t) (each-meets-loop-less t) (each-meets-loop-again t) (each-meets-same-length t) (each-meets-returns t) (each-meets-same-length-2 t) (each-meets-returns-2 t))
-    (λ t. kernels-lts.spec (kernels-claims t) (kernels-at t) kernels.Post kernels-Inv-loop kernels-μ-loop (kernels-mul-word t) (kernels-shared-slice-read-word t) (kernels-mul-if1 t) (kernels-shared-slice-read-if1 t) (kernels-returns t) (kernels-add-x t) (kernels-add-y t) (kernels-terms-after-requires t) (kernels-loop-holds t) (kernels-resolve-requires t) (kernels-resolve-requires-2 t) (kernels-same-requires t) (kernels-term-end-requires t) (kernels-term-end-requires-2 t) (kernels-sub-due t) (kernels-loop-less t) (kernels-loop-again t) (kernels-same-length t) (kernels-returns-2 t) (kernels-same-length-2 t) (kernels-returns-3 t))
-    (λ t. meets-lts.spec (meets-claims t) (meets-at t) meets.Post meets-Inv-loop meets-μ-loop (meets-loop-holds t) (meets-mul-if1 t) (meets-shared-slice-read-if1 t) (meets-add-resolve t) (meets-resolve-requires t) (meets-same-requires t) (meets-rest-requires t) (meets-loop-less t) (meets-loop-again t) (meets-rest-requires-2 t) (meets-loop-less-2 t) (meets-loop-again-2 t) (meets-same-length t) (meets-returns t))
-    (λ t. same-lts.spec (same-claims t) (same-at t) same.Post (same-mul-if1 t) (same-slice-read-if1 t) (same-mul-if1-2 t) (same-slice-read-if1-2 t) (same-returns t) (same-both-settled-requires t) (same-returns-2 t) (same-compare-requires t) (same-mul-old t) (same-slice-read-old t) (same-mul-new t) (same-slice-read-new t) (same-join-requires t) (same-same-length t) (same-returns-3 t) (same-same-length-2 t) (same-returns-4 t))
+    (λ t.
+    compare-lts.spec (compare-claims t) (compare-at t) compare.Post (compare-kernel-requires t) (compare-kernel-requires-2 t) (compare-kernels-requires t)
+    (compare-each-meets-requires t) (compare-covers-requires t) (compare-same-length t) (compare-returns t) (compare-same-length-2 t) (compare-returns-2 t)
+    (compare-same-length-3 t) (compare-returns-3 t))
+    (λ t.
+    each-meets-lts.spec (each-meets-claims t) (each-meets-at t) each-meets.Post each-meets-Inv-loop each-meets-μ-loop (each-meets-loop-holds t)
+    (each-meets-mul-if1 t) (each-meets-shared-slice-read-if1 t) (each-meets-add-resolve t) (each-meets-resolve-requires t) (each-meets-meets-requires t)
+    (each-meets-rest-requires t) (each-meets-loop-less t) (each-meets-loop-again t) (each-meets-same-length t) (each-meets-returns t)
+    (each-meets-same-length-2 t) (each-meets-returns-2 t))
+    (λ t.
+    kernels-lts.spec (kernels-claims t) (kernels-at t) kernels.Post kernels-Inv-loop kernels-μ-loop (kernels-mul-word t) (kernels-shared-slice-read-word t)
+    (kernels-mul-if1 t) (kernels-shared-slice-read-if1 t) (kernels-returns t) (kernels-add-x t) (kernels-add-y t) (kernels-terms-after-requires t)
+    (kernels-loop-holds t) (kernels-resolve-requires t) (kernels-resolve-requires-2 t) (kernels-same-requires t) (kernels-term-end-requires t)
+    (kernels-term-end-requires-2 t) (kernels-sub-due t) (kernels-loop-less t) (kernels-loop-again t) (kernels-same-length t) (kernels-returns-2 t)
+    (kernels-same-length-2 t) (kernels-returns-3 t))
+    (λ t.
+    meets-lts.spec (meets-claims t) (meets-at t) meets.Post meets-Inv-loop meets-μ-loop (meets-loop-holds t) (meets-mul-if1 t) (meets-shared-slice-read-if1 t)
+    (meets-add-resolve t) (meets-resolve-requires t) (meets-same-requires t) (meets-rest-requires t) (meets-loop-less t) (meets-loop-again t)
+    (meets-rest-requires-2 t) (meets-loop-less-2 t) (meets-loop-again-2 t) (meets-same-length t) (meets-returns t))
+    (λ t.
+    same-lts.spec (same-claims t) (same-at t) same.Post (same-mul-if1 t) (same-slice-read-if1 t) (same-mul-if1-2 t) (same-slice-read-if1-2 t) (same-returns t)
+    (same-both-settled-requires t) (same-returns-2 t) (same-compare-requires t) (same-mul-old t) (same-slice-read-old t) (same-mul-new t)
+    (same-slice-read-new t) (same-join-requires t) (same-same-length t) (same-returns-3 t) (same-same-length-2 t) (same-returns-4 t))

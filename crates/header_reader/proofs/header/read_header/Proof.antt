@@ -62,8 +62,11 @@ returns c =
     let a = r .before .before .before .before in
     let u = a .before .before .before in
     let n = u .before .before in
-    let p = n .before .before .before in
-    (headed _ _ _ (is-value (p .before .before .read-line .ensures) _ _ (p .p .given .1)) _ _ (is-value (n .read-line2 .ensures) _ _ (u .unknowns .given .1)) _ _ (is-read _ (a .read-arities .ensures .0) _ _ (r .r .given .1)) _ _ (is-value (e .read-line3 .ensures) _ _ (c .before .equations .given .1)), read-count FUNCTORS _ _ (r .r .given .1) (a .read-arities .ensures .1))
+    let p = n .before .before .before in (
+      headed _ _ _ (is-value (p .before .before .read-line .ensures) _ _ (p .p .given .1)) _ _ (is-value (n .read-line2 .ensures) _ _ (u .unknowns .given .1)) _
+          _ (is-read _ (a .read-arities .ensures .0) _ _ (r .r .given .1)) _ _ (is-value (e .read-line3 .ensures) _ _ (c .before .equations .given .1)),
+      read-count FUNCTORS _ _ (r .r .given .1) (a .read-arities .ensures .1),
+    )
 
 same-length-2 : tie.Need-same-length-2
 same-length-2 c = search needs
@@ -75,8 +78,12 @@ returns-2 c =
     let a = r .before .before .before .before in
     let u = a .before .before .before in
     let n = u .before .before in
-    let p = n .before .before .before in
-    (no-equations _ _ _ (is-value (p .before .before .read-line .ensures) _ _ (p .p .given .1)) _ _ (is-value (n .read-line2 .ensures) _ _ (u .unknowns .given .1)) _ _ (is-read _ (a .read-arities .ensures .0) _ _ (r .r .given .1)) _ (is-unfit (e .read-line3 .ensures) _ (c .before .f .given .1)), omega arith)
+    let p = n .before .before .before in (
+      no-equations _ _ _ (is-value (p .before .before .read-line .ensures) _ _ (p .p .given .1)) _ _
+          (is-value (n .read-line2 .ensures) _ _ (u .unknowns .given .1)) _ _ (is-read _ (a .read-arities .ensures .0) _ _ (r .r .given .1)) _
+          (is-unfit (e .read-line3 .ensures) _ (c .before .f .given .1)),
+      omega arith,
+    )
 
 same-length-3 : tie.Need-same-length-3
 same-length-3 c = search needs
@@ -86,8 +93,11 @@ returns-3 c =
     let a = c .before .before .before .before .before in
     let u = a .before .before .before in
     let n = u .before .before in
-    let p = n .before .before .before in
-    (no-arities _ _ _ (is-value (p .before .before .read-line .ensures) _ _ (p .p .given .1)) _ _ (is-value (n .read-line2 .ensures) _ _ (u .unknowns .given .1)) _ (is-stopped _ (a .read-arities .ensures .0) _ (c .before .f2 .given .1)), omega arith)
+    let p = n .before .before .before in (
+      no-arities _ _ _ (is-value (p .before .before .read-line .ensures) _ _ (p .p .given .1)) _ _
+          (is-value (n .read-line2 .ensures) _ _ (u .unknowns .given .1)) _ (is-stopped _ (a .read-arities .ensures .0) _ (c .before .f2 .given .1)),
+      omega arith,
+    )
 
 returns-4 : tie.Need-returns-4
 returns-4 c =

@@ -42,7 +42,9 @@ returns c =
     let v = e .before .before .before in
     let b = v .before .before in
     let p = b .before .before in
-    sym (is-met _ _ _ _ (e .meet2 .ensures) _ (c .before .r .given .1)) ∙ line-number _ _ _ _ _ _ (is-met _ _ _ _ (p .before .before .meet .ensures) _ (p .p .given .1)) _ _ (is-value (b .read-between .ensures) _ _ (v .v .given .1))
+    sym (is-met _ _ _ _ (e .meet2 .ensures) _ (c .before .r .given .1))
+    ∙ line-number _ _ _ _ _ _ (is-met _ _ _ _ (p .before .before .meet .ensures) _ (p .p .given .1)) _ _
+    (is-value (b .read-between .ensures) _ _ (v .v .given .1))
 
 returns-2 : tie.Need-returns-2
 returns-2 c =
@@ -50,7 +52,9 @@ returns-2 c =
     let v = e .before .before .before in
     let b = v .before .before in
     let p = b .before .before in
-    sym (is-unmet _ _ _ _ (e .meet2 .ensures) _ (c .before .r2 .given .1)) ∙ line-number _ _ _ _ _ _ (is-met _ _ _ _ (p .before .before .meet .ensures) _ (p .p .given .1)) _ _ (is-value (b .read-between .ensures) _ _ (v .v .given .1))
+    sym (is-unmet _ _ _ _ (e .meet2 .ensures) _ (c .before .r2 .given .1))
+    ∙ line-number _ _ _ _ _ _ (is-met _ _ _ _ (p .before .before .meet .ensures) _ (p .p .given .1)) _ _
+    (is-value (b .read-between .ensures) _ _ (v .v .given .1))
 
 returns-3 : tie.Need-returns-3
 returns-3 c =

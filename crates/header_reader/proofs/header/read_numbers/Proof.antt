@@ -54,8 +54,13 @@ loop-again c =
     let k = c .before in
     let a = k .before .before in
     let b = a .before .before in
-    let l = b .before .before in
-    (l .loop .inv .0 ∙ arities-turn _ _ _ _ (is-value (b .read-between .ensures) _ _ (a .a .given .1)) (k .peek .ensures) _ _ (b .before .loop-test .taken) (l .loop .inv .2) (c .if1 .taken), omega arith, simp length-set (l .loop .inv .2))
+    let l = b .before .before in (
+      l .loop .inv .0
+          ∙ arities-turn _ _ _ _ (is-value (b .read-between .ensures) _ _ (a .a .given .1)) (k .peek .ensures) _ _ (b .before .loop-test .taken) (l .loop .inv .2)
+          (c .if1 .taken),
+      omega arith,
+      simp length-set (l .loop .inv .2),
+    )
 
 add-t16 : tie.Need-add-t16 Inv-loop μ-loop
 add-t16 c = omega (arith, found _ _ (c .before .before .peek .ensures) (omega arith))
@@ -73,8 +78,12 @@ returns c =
     let k = c .before .before in
     let a = k .before .before in
     let b = a .before .before in
-    let l = b .before .before in
-    (arities-last _ _ _ _ (is-value (b .read-between .ensures) _ _ (a .a .given .1)) (k .peek .ensures) _ _ (b .before .loop-test .taken) (l .loop .inv .2) (c .before .if1 .left) (c .if2 .taken) ∙ sym (l .loop .inv .0), omega arith)
+    let l = b .before .before in (
+      arities-last _ _ _ _ (is-value (b .read-between .ensures) _ _ (a .a .given .1)) (k .peek .ensures) _ _ (b .before .loop-test .taken) (l .loop .inv .2)
+          (c .before .if1 .left) (c .if2 .taken)
+          ∙ sym (l .loop .inv .0),
+      omega arith,
+    )
 
 same-length-2 : tie.Need-same-length-2 Inv-loop μ-loop
 same-length-2 c =

@@ -12,7 +12,10 @@ slice-aggregate-each-holds : tie.Need-slice-aggregate-each-holds
 slice-aggregate-each-holds c = search needs
 
 each-holds-requires : tie.Need-each-holds-requires
-each-holds-requires c κs = let e = c .before .before .before .before .before .before .before .before .before .before .pre in let k = c .before .before .before .before .number .kept .0 in (relabelled-equations e k, none-settled e (c .before .before .before .before .number .ensures) k refl)
+each-holds-requires c κs =
+    let at-number = c .before .before .before .before in
+    let start = at-number .before .before .before .before .before .before in
+    let e = start .pre in let k = at-number .number .kept .0 in (relabelled-equations e k, none-settled e (at-number .number .ensures) k refl)
 
 same-length : tie.Need-same-length
 same-length c = search needs

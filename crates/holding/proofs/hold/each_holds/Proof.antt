@@ -23,7 +23,9 @@ resolve-requires : tie.Need-resolve-requires Inv-loop μ-loop
 resolve-requires c κs = let i = c .before .before .before .loop .inv in resolvable (i .placed) _ (left-in i (c .before .before .loop-test .taken))
 
 resolve-requires-2 : tie.Need-resolve-requires-2 Inv-loop μ-loop
-resolve-requires-2 c κs = let i = c .before .before .before .before .loop .inv in rw (c .before .before .term-end .ensures) (resolvable (i .placed) _ (right-in i (c .before .before .before .loop-test .taken)))
+resolve-requires-2 c κs =
+    let turn = c .before .before .before in
+    let i = turn .before .loop .inv in rw (c .before .before .term-end .ensures) (resolvable (i .placed) _ (right-in i (turn .loop-test .taken)))
 
 same-requires : tie.Need-same-requires Inv-loop μ-loop
 same-requires c κs =
@@ -32,7 +34,11 @@ same-requires c κs =
     rw (c .before .resolve .ensures, r) (holds-asks w (c .before .before .before .before .loop-test .taken), w .apart)
 
 term-end-requires-2 : tie.Need-term-end-requires-2 Inv-loop μ-loop
-term-end-requires-2 c κs = let i = c .before .before .before .before .before .before .before .before .before .loop .inv in rw (c .before .before .before .before .before .before .before .term-end .ensures) (record { unknowns = _; terms = i .placed .terms; inside = right-in i (c .before .before .before .before .before .before .before .before .loop-test .taken) })
+term-end-requires-2 c κs =
+    let at-term-end = c .before .before .before .before .before .before .before in
+    let turn = at-term-end .before in
+    let i = turn .before .loop .inv in
+    rw (at-term-end .term-end .ensures) (record { unknowns = _; terms = i .placed .terms; inside = right-in i (turn .loop-test .taken) })
 
 sub-due : tie.Need-sub-due Inv-loop μ-loop
 sub-due c = search needs
@@ -42,20 +48,34 @@ loop-less c = let z = c .before .before .before .before .before .before .before 
 
 loop-again : tie.Need-loop-again Inv-loop μ-loop
 loop-again c =
-    let e = c .before .before .before .before .before .before .before .before .term-end .ensures in
-    let r = rw e at (c .before .before .before .before .before .resolve2 .ensures) in
-    let s = rw (c .before .before .before .before .before .before .resolve .ensures, r) at (c .before .before .before .before .same .ensures) in
-    rw (c .term-end2 .ensures, e) (holds-on (c .before .before .before .before .before .before .before .before .before .before .loop .inv) (c .before .before .before .before .before .before .before .before .before .loop-test .taken) s (c .before .if1 .taken))
+    let at-same = c .before .before .before .before in
+    let at-resolve2 = at-same .before in
+    let at-resolve = at-resolve2 .before in
+    let at-term-end = at-resolve .before .before in
+    let turn = at-term-end .before in
+    let e = at-term-end .term-end .ensures in
+    let r = rw e at (at-resolve2 .resolve2 .ensures) in
+    let s = rw (at-resolve .resolve .ensures, r) at (at-same .same .ensures) in
+    rw (c .term-end2 .ensures, e) (holds-on (turn .before .loop .inv) (turn .loop-test .taken) s (c .before .if1 .taken))
 
 same-length : tie.Need-same-length Inv-loop μ-loop
-same-length c = c .before .before .before .same .kept .1 .1 .1 .1 .0 ∙ c .before .before .before .before .before .before .before .before .before .loop .inv .classes .long ∙ sym (c .before .before .before .before .before .before .before .before .before .before .before .before .before .before .before .pre .0 .long)
+same-length c =
+    let at-same = c .before .before .before in
+    let turn = at-same .before .before .before .before .before .before in
+    let start = turn .before .before .before .before .before .before in
+    at-same .same .kept .1 .1 .1 .1 .0 ∙ turn .loop .inv .classes .long ∙ sym (start .pre .0 .long)
 
 returns : tie.Need-returns Inv-loop μ-loop
 returns c =
-    let e = c .before .before .before .before .before .before .before .term-end .ensures in
-    let r = rw e at (c .before .before .before .before .resolve2 .ensures) in
-    let s = rw (c .before .before .before .before .before .resolve .ensures, r) at (c .before .before .before .same .ensures) in
-    sym (holds-no (c .before .before .before .before .before .before .before .before .before .loop .inv) (c .before .before .before .before .before .before .before .before .loop-test .taken) s (c .if1 .left))
+    let at-same = c .before .before .before in
+    let at-resolve2 = at-same .before in
+    let at-resolve = at-resolve2 .before in
+    let at-term-end = at-resolve .before .before in
+    let turn = at-term-end .before in
+    let e = at-term-end .term-end .ensures in
+    let r = rw e at (at-resolve2 .resolve2 .ensures) in
+    let s = rw (at-resolve .resolve .ensures, r) at (at-same .same .ensures) in
+    sym (holds-no (turn .before .loop .inv) (turn .loop-test .taken) s (c .if1 .left))
 
 same-length-2 : tie.Need-same-length-2 Inv-loop μ-loop
 same-length-2 c = c .before .loop .inv .classes .long ∙ sym (c .before .before .before .before .before .before .before .pre .0 .long)

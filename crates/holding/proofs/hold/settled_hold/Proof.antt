@@ -24,7 +24,16 @@ slice-aggregate-settled-in-2 : tie.Need-slice-aggregate-settled-in-2
 slice-aggregate-settled-in-2 c = sym (length-take-le _ _ (omega (arith, c .before .before .before .before .before .before .before .before .pre .few, c .before .before .blank2 .ensures)))
 
 settled-in-requires : tie.Need-settled-in-requires
-settled-in-requires c κs = (c .before .before .before .before .before .before .before .before .before .pre, (length-take-le _ _ (omega (arith, c .before .before .before .before .before .before .before .before .before .pre .few, c .before .before .before .before .blank .ensures)), length-take-le _ _ (omega (arith, c .before .before .before .before .before .before .before .before .before .pre .few, c .before .before .before .blank2 .ensures))))
+settled-in-requires c κs =
+    let at-blank2 = c .before .before .before in
+    let at-blank = at-blank2 .before in
+    let start = at-blank .before .before .before .before .before in (
+      start .pre,
+      (
+        length-take-le _ _ (omega (arith, start .pre .few, at-blank .blank .ensures)),
+        length-take-le _ _ (omega (arith, start .pre .few, at-blank2 .blank2 .ensures)),
+      ),
+    )
 
 same-length : tie.Need-same-length
 same-length c = c .before .before .before .before .settled-in .kept .1 .1 .1 .1 .1 .0

@@ -14,16 +14,36 @@ clear-requires : tie.Need-clear-requires
 clear-requires c κs = search needs
 
 rank-all-requires : tie.Need-rank-all-requires
-rank-all-requires c κs = let p = c .before .before .before .before .before .before .before .before .before .before .before .before .before .before .before .pre in ranked-cleared (p .0 .placed) (p .1 .0) (c .before .before .before .clear .ensures)
+rank-all-requires c κs =
+    let at-clear = c .before .before .before in
+    let start = at-clear .before .before .before .before .before .before .before .before .before .before .before .before in
+    let p = start .pre in ranked-cleared (p .0 .placed) (p .1 .0) (at-clear .clear .ensures)
 
 clear-requires-2 : tie.Need-clear-requires-2
 clear-requires-2 c κs = search needs
 
 settle-requires : tie.Need-settle-requires
-settle-requires c κs = let p = c .before .before .before .before .before .before .before .before .before .before .before .before .before .before .before .before .before .before .before .before .before .before .before .before .before .pre in let d = c .before .before .before .before .before .clear2 .ensures in record { ranked = c .before .before .before .before .before .before .before .before .before .rank-all .ensures; long = d .long ∙ p .1 .1; classes = each-its-own (c .before .before .before .before .before .before .before .before .before .before .before .before .before .before .before .before .before .number .kept .0 ∙ c .before .before .before .before .before .before .before .before .before .before .before .before .before .before .before .before .before .before .before .before .before .before .before .before .before .pre .0 .long) (c .before .before .before .before .before .before .before .before .before .before .before .before .before .before .before .before .before .number .ensures); none = λ q i. d .none q (omega (arith, d .long)) }
+settle-requires c κs =
+    let at-clear2 = c .before .before .before .before .before in
+    let at-rank-all = at-clear2 .before .before .before .before in
+    let at-number = at-rank-all .before .before .before .before .before .before .before .before in
+    let start = at-number .before .before .before .before .before .before .before .before in
+    let p = start .pre in
+    let d = at-clear2 .clear2 .ensures in
+    record {
+      ranked = at-rank-all .rank-all .ensures;
+      long = d .long ∙ p .1 .1;
+      classes = each-its-own (at-number .number .kept .0 ∙ p .0 .long) (at-number .number .ensures);
+      none = λ q i. d .none q (omega (arith, d .long));
+    }
 
 each-holds-requires : tie.Need-each-holds-requires
-each-holds-requires c κs = let s = c .before .before .before .before .before .before .settle .ensures in (relabelled-equations (c .before .before .before .before .before .before .before .before .before .before .before .before .before .before .before .before .before .before .before .before .before .before .before .before .before .before .before .before .before .before .before .before .pre .0) (s .classes .long ∙ sym (c .before .before .before .before .before .before .before .before .before .before .before .before .before .before .before .before .before .before .before .before .before .before .before .before .before .before .before .before .before .before .before .before .pre .0 .long)), s)
+each-holds-requires c κs =
+    let at-settle = c .before .before .before .before .before .before in
+    let earlier = at-settle .before .before .before .before .before .before .before .before .before .before .before .before .before in
+    let start = earlier .before .before .before .before .before .before .before .before .before .before .before .before .before in
+    let s = at-settle .settle .ensures in
+    (relabelled-equations (start .pre .0) (s .classes .long ∙ sym (start .pre .0 .long)), s)
 
 same-length : tie.Need-same-length
 same-length c = search needs

@@ -14,7 +14,10 @@ spreads-little-requires : tie.Need-spreads-little-requires
 spreads-little-requires c κs = tt
 
 all-hold-requires : tie.Need-all-hold-requires
-all-hold-requires c κs = let p = c .before .before .before .before .before .before .before .before .before .before .before .before .before .before .pre in asked-equations (p .0) (c .before .before .before .before .before .before .before .before .place-values .ensures) (p .1)
+all-hold-requires c κs =
+    let at-place-values = c .before .before .before .before .before .before .before .before in
+    let start = at-place-values .before .before .before .before .before .before in
+    let p = start .pre in asked-equations (p .0) (at-place-values .place-values .ensures) (p .1)
 
 same-length : tie.Need-same-length
 same-length c = c .before .before .before .before .before .before .before .before .before .before .before .place-values .kept .1 .1 .1 .0
@@ -23,10 +26,16 @@ same-length-2 : tie.Need-same-length-2
 same-length-2 c = c .before .before .all-hold .kept .1 .1 .1 .0
 
 returns : tie.Need-returns
-returns c = c .before .before .all-hold .ensures ∙ asked-holding (c .before .before .before .before .before .before .before .before .before .before .before .before .before .before .before .before .before .pre .0) (c .before .before .before .before .before .before .before .before .before .before .before .place-values .ensures)
+returns c =
+    let at-place-values = c .before .before .before .before .before .before .before .before .before .before .before in
+    let start = at-place-values .before .before .before .before .before .before in
+    c .before .before .all-hold .ensures ∙ asked-holding (start .pre .0) (at-place-values .place-values .ensures)
 
 settled-hold-requires : tie.Need-settled-hold-requires
-settled-hold-requires c κs = let p = c .before .before .before .before .before .before .before .before .before .before .before .before .before .before .pre in asked-equations (p .0) (c .before .before .before .before .before .before .before .before .place-values .ensures) (p .1)
+settled-hold-requires c κs =
+    let at-place-values = c .before .before .before .before .before .before .before .before in
+    let start = at-place-values .before .before .before .before .before .before in
+    let p = start .pre in asked-equations (p .0) (at-place-values .place-values .ensures) (p .1)
 
 same-length-3 : tie.Need-same-length-3
 same-length-3 c = c .before .before .before .before .before .before .before .before .before .before .before .place-values .kept .1 .1 .1 .0
@@ -35,7 +44,10 @@ same-length-4 : tie.Need-same-length-4
 same-length-4 c = c .before .before .settled-hold .kept .1 .1 .1 .0
 
 returns-2 : tie.Need-returns-2
-returns-2 c = c .before .before .settled-hold .ensures ∙ asked-holding (c .before .before .before .before .before .before .before .before .before .before .before .before .before .before .before .before .before .pre .0) (c .before .before .before .before .before .before .before .before .before .before .before .place-values .ensures)
+returns-2 c =
+    let at-place-values = c .before .before .before .before .before .before .before .before .before .before .before in
+    let start = at-place-values .before .before .before .before .before .before in
+    c .before .before .settled-hold .ensures ∙ asked-holding (start .pre .0) (at-place-values .place-values .ensures)
 
 pub values-hold-spec : {M : Type 1} → statement M
 values-hold-spec =

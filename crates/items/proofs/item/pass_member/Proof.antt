@@ -33,8 +33,10 @@ open-tail-requires c κs = search needs
 
 returns-2 : tie.Need-returns-2
 returns-2 c =
-    let i = c .before in
-    (c .open-tail .ensures .0 _ ∙ after-member-tail _ _ (i .before .before .peek .ensures) _ (i .before .if1 .left) (i .if2 .taken), omega (arith, i .before .before .before .before .before .pre .within))
+    let i = c .before in (
+      c .open-tail .ensures .0 _ ∙ after-member-tail _ _ (i .before .before .peek .ensures) _ (i .before .if1 .left) (i .if2 .taken),
+      omega (arith, i .before .before .before .before .before .pre .within),
+    )
 
 end-empty-requires : tie.Need-end-empty-requires
 end-empty-requires c κs =

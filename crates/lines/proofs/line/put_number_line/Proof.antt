@@ -18,7 +18,10 @@ same-length c = search needs
 
 returns : tie.Need-returns
 unfolding line
-returns c = wrote-then (c .before .before .before .before .before .before .before .before .before .before .put-bytes .ensures) (wrote-then (c .before .before .before .before .before .before .put-number .ensures) (c .before .before .put-byte .ensures))
+returns c =
+    let at-put-number = c .before .before .before .before .before .before in
+    let at-put-bytes = at-put-number .before .before .before .before in
+    wrote-then (at-put-bytes .put-bytes .ensures) (wrote-then (at-put-number .put-number .ensures) (c .before .before .put-byte .ensures))
 
 pub put-number-line-spec : {M : Type 1} → statement M
 put-number-line-spec =

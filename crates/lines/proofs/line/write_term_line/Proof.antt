@@ -22,13 +22,20 @@ same-length : tie.Need-same-length
 same-length c = search needs
 
 returns : tie.Need-returns
-returns c = lined _ _ _ _ _ (c .before .before .before .before .before .before .before .before .before .before .before .before .before .put-bytes .ensures) (c .before .before .before .before .before .before .before .before .before .write-term .ensures) (c .before .before .before .before .before .p .given .1) (c .before .before .put-byte .ensures)
+returns c =
+    let at-p = c .before .before .before .before .before in
+    let at-write-term = at-p .before .before .before .before in
+    let at-put-bytes = at-write-term .before .before .before .before in
+    lined _ _ _ _ _ (at-put-bytes .put-bytes .ensures) (at-write-term .write-term .ensures) (at-p .p .given .1) (c .before .before .put-byte .ensures)
 
 same-length-2 : tie.Need-same-length-2
 same-length-2 c = search needs
 
 returns-2 : tie.Need-returns-2
-returns-2 c = lined-deep _ _ _ _ _ (c .before .before .before .before .before .before .before .before .before .put-bytes .ensures) (c .before .before .before .before .before .write-term .ensures) (c .before .p2 .given .1)
+returns-2 c =
+    let at-write-term = c .before .before .before .before .before in
+    let at-put-bytes = at-write-term .before .before .before .before in
+    lined-deep _ _ _ _ _ (at-put-bytes .put-bytes .ensures) (at-write-term .write-term .ensures) (c .before .p2 .given .1)
 
 pub write-term-line-spec : {M : Type 1} → statement M
 write-term-line-spec =

@@ -21,7 +21,10 @@ same-length c = search needs
 
 returns : tie.Need-returns
 unfolding line
-returns c = wrote-then (c .before .before .before .before .before .before .before .before .before .before .put-bytes .ensures) (wrote-then (c .before .before .before .before .before .before .put-end .ensures) (c .before .before .put-byte .ensures))
+returns c =
+    let at-put-end = c .before .before .before .before .before .before in
+    let at-put-bytes = at-put-end .before .before .before .before in
+    wrote-then (at-put-bytes .put-bytes .ensures) (wrote-then (at-put-end .put-end .ensures) (c .before .before .put-byte .ensures))
 
 pub put-end-line-spec : {M : Type 1} → statement M
 put-end-line-spec =

@@ -30,7 +30,13 @@ same-length c = search needs
 
 returns : tie.Need-returns
 unfolding list-header
-returns c = wrote-then (c .before .before .before .before .before .before .before .before .before .before .before .before .before .before .before .before .put-number-line .ensures) (wrote-then (c .before .before .before .before .before .before .before .before .before .before .before .before .put-end-line .ensures) (wrote-then (c .before .before .before .before .before .before .before .put-number-line2 .ensures) (c .before .before .put-number-line3 .ensures)))
+returns c =
+    let at-put-number-line2 = c .before .before .before .before .before .before .before in
+    let at-put-end-line = at-put-number-line2 .before .before .before .before .before in
+    let at-put-number-line = at-put-end-line .before .before .before .before in
+    wrote-then (at-put-number-line .put-number-line .ensures)
+    (wrote-then (at-put-end-line .put-end-line .ensures)
+    (wrote-then (at-put-number-line2 .put-number-line2 .ensures) (c .before .before .put-number-line3 .ensures)))
 
 pub put-list-header-spec : {M : Type 1} → statement M
 put-list-header-spec =

@@ -34,7 +34,13 @@ same-length c = search needs
 
 returns : tie.Need-returns
 unfolding answer-at
-returns c = numbered _ _ _ _ (c .before .before .before .before .before .before .before .before .before .before .before .before .if1 .taken) _ _ (c .before .before .before .before .before .before .before .before .wide .ensures) (c .before .before .before .before .count .ensures) (c .before .before .before .before .before .before .before .put-number-line .ensures) (c .before .before .write-bindings .ensures)
+returns c =
+    let at-count = c .before .before .before .before in
+    let at-put-number-line = at-count .before .before .before in
+    let at-wide = at-put-number-line .before in
+    let at-if1 = at-wide .before .before .before .before in
+    numbered _ _ _ _ (at-if1 .if1 .taken) _ _ (at-wide .wide .ensures) (at-count .count .ensures) (at-put-number-line .put-number-line .ensures)
+    (c .before .before .write-bindings .ensures)
 
 returns-2 : tie.Need-returns-2
 unfolding answer-at

@@ -35,7 +35,12 @@ same-length c = search needs
 
 returns : tie.Need-returns
 unfolding binding-at
-returns c = numbered _ _ _ _ (c .before .before .before .before .before .before .before .before .before .before .before .before .if1 .taken) _ _ (c .before .before .before .before .before .before .before .before .wide .ensures) refl (c .before .before .before .before .before .before .before .put-number-line .ensures) (c .before .before .write-term-line .ensures)
+returns c =
+    let at-put-number-line = c .before .before .before .before .before .before .before in
+    let at-wide = at-put-number-line .before in
+    let at-if1 = at-wide .before .before .before .before in
+    numbered _ _ _ _ (at-if1 .if1 .taken) _ _ (at-wide .wide .ensures) refl (at-put-number-line .put-number-line .ensures)
+    (c .before .before .write-term-line .ensures)
 
 returns-2 : tie.Need-returns-2
 unfolding binding-at

@@ -36,7 +36,12 @@ loop-less : tie.Need-loop-less Inv-loop μ-loop
 loop-less c = search needs
 
 loop-again : tie.Need-loop-again Inv-loop μ-loop
-loop-again c = owed-wrote (owed-wrote (owed-as (further-some _ _ (c .before .before .before .before .before .before .before .before .before .before .loop-test .taken)) (c .before .before .before .before .before .before .before .before .before .before .before .loop .inv)) (c .before .before .before .before .before .before .before .before .put-byte .ensures)) (wrote-as (ap decimal (c .before .before .before .wide .ensures)) (c .before .before .put-number .ensures))
+loop-again c =
+    let at-wide = c .before .before .before in
+    let at-put-byte = at-wide .before .before .before .before .before in
+    let turn = at-put-byte .before .before in
+    owed-wrote (owed-wrote (owed-as (further-some _ _ (turn .loop-test .taken)) (turn .before .loop .inv)) (at-put-byte .put-byte .ensures))
+    (wrote-as (ap decimal (at-wide .wide .ensures)) (c .before .before .put-number .ensures))
 
 same-length : tie.Need-same-length Inv-loop μ-loop
 same-length c = c .before .loop .inv .kept

@@ -30,7 +30,13 @@ same-length c = search needs
 
 returns : tie.Need-returns
 unfolding header
-returns c = wrote-then (c .before .before .before .before .before .before .before .before .before .before .before .before .before .before .before .before .put-number-line .ensures) (wrote-then (c .before .before .before .before .before .before .before .before .before .before .before .put-number-line2 .ensures) (wrote-then (c .before .before .before .before .before .before .before .put-arities .ensures) (c .before .before .put-number-line3 .ensures)))
+returns c =
+    let at-put-arities = c .before .before .before .before .before .before .before in
+    let at-put-number-line2 = at-put-arities .before .before .before .before in
+    let at-put-number-line = at-put-number-line2 .before .before .before .before .before in
+    wrote-then (at-put-number-line .put-number-line .ensures)
+    (wrote-then (at-put-number-line2 .put-number-line2 .ensures)
+    (wrote-then (at-put-arities .put-arities .ensures) (c .before .before .put-number-line3 .ensures)))
 
 pub put-header-spec : {M : Type 1} → statement M
 put-header-spec =

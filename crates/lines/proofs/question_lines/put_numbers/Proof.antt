@@ -26,7 +26,12 @@ same-length : tie.Need-same-length
 same-length c = search needs
 
 returns-2 : tie.Need-returns-2
-returns-2 c = wrote-as (numbers-some _ (c .before .before .before .before .before .before .before .before .before .before .if1 .left)) (wrote-then (wrote-as (ap decimal (c .before .before .before .before .before .before .before .wide .ensures)) (c .before .before .before .before .before .before .put-number .ensures)) (c .before .before .put-further .ensures))
+returns-2 c =
+    let at-put-number = c .before .before .before .before .before .before in
+    let at-wide = at-put-number .before in
+    let at-if1 = at-wide .before .before .before in
+    wrote-as (numbers-some _ (at-if1 .if1 .left))
+    (wrote-then (wrote-as (ap decimal (at-wide .wide .ensures)) (at-put-number .put-number .ensures)) (c .before .before .put-further .ensures))
 
 pub put-numbers-spec : {M : Type 1} → statement M
 put-numbers-spec =

@@ -27,7 +27,10 @@ same-length c = search needs
 
 returns : tie.Need-returns
 unfolding equation-at
-returns c = passed-then (c .before .before .before .before .before .before .before .before .before .before .write-term-line .ensures) _ (c .before .before .before .before .before .before .right .given .1) (c .before .before .write-term-line2 .ensures)
+returns c =
+    let at-right = c .before .before .before .before .before .before in
+    let at-write-term-line = at-right .before .before .before .before in
+    passed-then (at-write-term-line .write-term-line .ensures) _ (at-right .right .given .1) (c .before .before .write-term-line2 .ensures)
 
 same-length-2 : tie.Need-same-length-2
 same-length-2 c = search needs

@@ -8,7 +8,8 @@ use Rattle.lines.proofs.question_lines.write_equations.Statement.{state
 use Rattle.lines.proofs.question_lines.write_equations.Tie as tie
 
 abbrev Inv-loop : tie.InvT-loop
-Inv-loop arities words equations text₀ at due₀ from₀ next₀ text due from next = Rest (repeat (equation-at edition-one arities words) equations 0) text₀ at (repeat (equation-at edition-one arities words) due from) text next
+Inv-loop arities words equations text₀ at due₀ from₀ next₀ text due from next =
+    Rest (repeat (equation-at edition-one arities words) equations 0) text₀ at (repeat (equation-at edition-one arities words) due from) text next
 
 abbrev μ-loop : tie.MeasureT-loop
 μ-loop arities words equations text₀ at due₀ from₀ next₀ text due from next = due
@@ -29,7 +30,11 @@ loop-less : tie.Need-loop-less Inv-loop μ-loop
 loop-less c = search needs
 
 loop-again : tie.Need-loop-again Inv-loop μ-loop
-loop-again c = rest-then _ (rest-as (repeat-some _ _ _ (c .before .before .before .before .before .before .before .loop-test .taken)) (c .before .before .before .before .before .before .before .before .loop .inv)) (c .before .before .before .before .before .write-equation .ensures) (c .before .p .given .1)
+loop-again c =
+    let at-write-equation = c .before .before .before .before .before in
+    let turn = at-write-equation .before .before in
+    rest-then _ (rest-as (repeat-some _ _ _ (turn .loop-test .taken)) (turn .before .loop .inv)) (at-write-equation .write-equation .ensures)
+    (c .before .p .given .1)
 
 enum-known-p-2 : tie.Need-enum-known-p-2 Inv-loop μ-loop
 enum-known-p-2 c = search needs
@@ -38,7 +43,11 @@ same-length : tie.Need-same-length Inv-loop μ-loop
 same-length c = c .before .before .before .before .before .write-equation .kept .1 .1 .1 .0 ∙ c .before .before .before .before .before .before .before .before .loop .inv .kept
 
 returns : tie.Need-returns Inv-loop μ-loop
-returns c = rest-stop _ (rest-as (repeat-some _ _ _ (c .before .before .before .before .before .before .before .loop-test .taken)) (c .before .before .before .before .before .before .before .before .loop .inv)) (c .before .before .before .before .before .write-equation .ensures) (c .before .p2 .given .1)
+returns c =
+    let at-write-equation = c .before .before .before .before .before in
+    let turn = at-write-equation .before .before in
+    rest-stop _ (rest-as (repeat-some _ _ _ (turn .loop-test .taken)) (turn .before .loop .inv)) (at-write-equation .write-equation .ensures)
+    (c .before .p2 .given .1)
 
 same-length-2 : tie.Need-same-length-2 Inv-loop μ-loop
 same-length-2 c = c .before .loop .inv .kept

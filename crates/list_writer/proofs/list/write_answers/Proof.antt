@@ -29,13 +29,23 @@ returns : tie.Need-returns
 returns c = list-nowhere _ _ _ _ _ _ (sym (c .before .before .end-of-number .ensures) ∙ c .enum-told .given .1)
 
 returns-2 : tie.Need-returns-2
-returns-2 c = list-refused _ _ _ _ _ _ _ (sym (c .before .before .before .before .before .before .before .end-of-number .ensures) ∙ c .before .before .before .before .before .ended .given .1) _ (sym (c .before .before .before .check-list .ensures) ∙ c .before .refusal .given .1)
+returns-2 c =
+    let at-check-list = c .before .before .before in
+    let at-ended = at-check-list .before .before in
+    let at-end-of-number = at-ended .before .before in
+    list-refused _ _ _ _ _ _ _ (sym (at-end-of-number .end-of-number .ensures) ∙ at-ended .ended .given .1) _
+    (sym (at-check-list .check-list .ensures) ∙ c .before .refusal .given .1)
 
 same-length : tie.Need-same-length
 same-length c = search needs
 
 returns-3 : tie.Need-returns-3
-returns-3 c = list-checked _ _ _ _ _ _ _ (sym (c .before .before .before .before .before .before .before .before .before .before .end-of-number .ensures) ∙ c .before .before .before .before .before .before .before .before .ended .given .1) (search needs) (sym (c .before .before .before .before .before .before .check-list .ensures) ∙ c .before .before .before .before .enum-told2 .given .1) (c .before .before .write-checked .ensures .0) (c .before .before .write-checked .ensures .1)
+returns-3 c =
+    list-checked _ _ _ _ _ _ _
+    (sym (c .before .before .before .before .before .before .before .before .before .before .end-of-number .ensures)
+    ∙ c .before .before .before .before .before .before .before .before .ended .given .1)
+    (search needs) (sym (c .before .before .before .before .before .before .check-list .ensures) ∙ c .before .before .before .before .enum-told2 .given .1)
+    (c .before .before .write-checked .ensures .0) (c .before .before .write-checked .ensures .1)
 
 pub write-answers-spec : {M : Type 1} → statement M
 write-answers-spec =

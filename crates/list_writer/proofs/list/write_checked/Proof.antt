@@ -23,7 +23,10 @@ same-length : tie.Need-same-length
 same-length c = search needs
 
 returns-2 : tie.Need-returns-2
-returns-2 c = (sym (c .before .before .before .before .before .length .given .1) ∙ c .before .before .before .before .before .before .before .measure-list .ensures, written (c .before .before .write-list .ensures))
+returns-2 c =
+    let at-length = c .before .before .before .before .before in
+    let at-measure-list = at-length .before .before in
+    (sym (at-length .length .given .1) ∙ at-measure-list .measure-list .ensures, written (c .before .before .write-list .ensures))
 
 pub write-checked-spec : {M : Type 1} → statement M
 write-checked-spec =

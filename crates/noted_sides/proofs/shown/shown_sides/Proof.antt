@@ -87,7 +87,19 @@ wide-requires-6 c κs = search needs
 
 returns : tie.Need-returns
 unfolding sides-in
-returns c = rw (c .wide6 .ensures, c .before .before .wide5 .ensures, c .before .before .before .before .wide4 .ensures, c .before .before .before .before .before .before .wide3 .ensures, c .before .before .before .before .before .before .before .before .wide2 .ensures, c .before .before .before .before .before .before .before .before .before .before .wide .ensures)
+returns c =
+    let at-wide4 = c .before .before .before .before in
+    let at-wide3 = at-wide4 .before .before in
+    let at-wide2 = at-wide3 .before .before in
+    let at-wide = at-wide2 .before .before in
+    rw (
+      c .wide6 .ensures,
+      c .before .before .wide5 .ensures,
+      at-wide4 .wide4 .ensures,
+      at-wide3 .wide3 .ensures,
+      at-wide2 .wide2 .ensures,
+      at-wide .wide .ensures,
+    )
 
 pub shown-sides-spec : {M : Type 1} → statement M
 shown-sides-spec =

@@ -60,8 +60,10 @@ loop-less c = search needs
 loop-again : tie.Need-loop-again Inv-loop μ-loop
 loop-again c =
     let d = c .before .before in
-    let l = d .before .before in
-    (l .loop .inv .0 ∙ digits-more _ _ (d .digit-of .ensures ∙ ap digit (d .before .peek .ensures)) _ _ _ (c .if2 .left) (c .before .if1 .left), room-less _ _ _ (c .if2 .left) (l .loop .inv .1) (c .before .if1 .left))
+    let l = d .before .before in (
+      l .loop .inv .0 ∙ digits-more _ _ (d .digit-of .ensures ∙ ap digit (d .before .peek .ensures)) _ _ _ (c .if2 .left) (c .before .if1 .left),
+      room-less _ _ _ (c .if2 .left) (l .loop .inv .1) (c .before .if1 .left),
+    )
 
 pub read-digits-spec : {M : Type 1} → statement M
 read-digits-spec =

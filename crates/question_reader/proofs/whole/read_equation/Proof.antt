@@ -24,8 +24,12 @@ read-side-requires-2 : tie.Need-read-side-requires-2
 read-side-requires-2 c κs =
     let p = c .before .before .before in
     let s = p .before .before .before .before in
-    let a = s .before .before .before .before .before .before in
-    (record { long = s .read-side .kept .1 .1 .1 .1 .1 .0 ∙ a .pre .0 .long; within = read-count SYMBOLS _ _ (p .p .given .1) (s .read-side .ensures .1) }, left-ends _ _ _ _ _ _ _ (a .pre .1) (is-read _ (s .read-side .ensures .0) _ _ (p .p .given .1)), a .pre .2, a .pre .3)
+    let a = s .before .before .before .before .before .before in (
+      record { long = s .read-side .kept .1 .1 .1 .1 .1 .0 ∙ a .pre .0 .long; within = read-count SYMBOLS _ _ (p .p .given .1) (s .read-side .ensures .1) },
+      left-ends _ _ _ _ _ _ _ (a .pre .1) (is-read _ (s .read-side .ensures .0) _ _ (p .p .given .1)),
+      a .pre .2,
+      a .pre .3,
+    )
 
 enum-known-r : tie.Need-enum-known-r
 enum-known-r c = search needs

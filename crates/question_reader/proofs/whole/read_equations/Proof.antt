@@ -13,7 +13,9 @@ use Rattle.question_reader.proofs.whole.read_equations.Statement.{state
 use Rattle.question_reader.proofs.whole.read_equations.Tie as tie
 
 abbrev Inv-loop : tie.InvT-loop
-Inv-loop text at count unknowns arities words₀ left₀ p₀ n₀ words left p n = (equations edition-one text unknowns arities count at [] ≡ equations edition-one text unknowns arities left p (take n words)) × (n ≤ SYMBOLS) × (length words ≡ SYMBOLS) × (p ≤ length text)
+Inv-loop text at count unknowns arities words₀ left₀ p₀ n₀ words left p n =
+    (equations edition-one text unknowns arities count at [] ≡ equations edition-one text unknowns arities left p (take n words)) × (n ≤ SYMBOLS)
+    × (length words ≡ SYMBOLS) × (p ≤ length text)
 
 abbrev μ-loop : tie.MeasureT-loop
 μ-loop text at count unknowns arities words₀ left₀ p₀ n₀ words left p n = left
@@ -42,8 +44,12 @@ loop-again : tie.Need-loop-again Inv-loop μ-loop
 loop-again c =
     let s = c .before .before .before .before .before in
     let l = s .before .before .before in
-    let E = is-read _ (s .read-equation .ensures .0) _ _ (c .before .q .given .1) in
-    (l .loop .inv .0 ∙ equations-more _ _ _ _ _ _ _ _ (s .before .before .loop-test .taken) E, read-count SYMBOLS _ _ (c .before .q .given .1) (s .read-equation .ensures .1), s .read-equation .kept .1 .1 .1 .1 .0 ∙ l .loop .inv .2, equation-ends _ _ _ _ _ _ _ (l .loop .inv .3) E)
+    let E = is-read _ (s .read-equation .ensures .0) _ _ (c .before .q .given .1) in (
+      l .loop .inv .0 ∙ equations-more _ _ _ _ _ _ _ _ (s .before .before .loop-test .taken) E,
+      read-count SYMBOLS _ _ (c .before .q .given .1) (s .read-equation .ensures .1),
+      s .read-equation .kept .1 .1 .1 .1 .0 ∙ l .loop .inv .2,
+      equation-ends _ _ _ _ _ _ _ (l .loop .inv .3) E,
+    )
 
 enum-known-r : tie.Need-enum-known-r Inv-loop μ-loop
 enum-known-r c = search needs

@@ -20,8 +20,13 @@ read-term-requires : tie.Need-read-term-requires
 read-term-requires c κs =
     let p = c .before .before in
     let m = p .before .before in
-    let a = m .before .before .before .before .before in
-    (a .pre .0, key-ends _ _ _ _ _ (λ i. omega (arith, m .before .before .before .shared-slice-known2 .given i)) (a .pre .1) (is-met _ _ _ (tt {0}) (m .meet .ensures) _ (p .p .given .1)), a .pre .2, a .pre .3)
+    let a = m .before .before .before .before .before in (
+      a .pre .0,
+      key-ends _ _ _ _ _ (λ i. omega (arith, m .before .before .before .shared-slice-known2 .given i)) (a .pre .1)
+          (is-met _ _ _ (tt {0}) (m .meet .ensures) _ (p .p .given .1)),
+      a .pre .2,
+      a .pre .3,
+    )
 
 enum-known-q : tie.Need-enum-known-q
 enum-known-q c = search needs
@@ -53,8 +58,12 @@ returns c =
     let q = e .before .before .before in
     let t = q .before .before .before .before in
     let p = t .before .before .before in
-    let w = take (q .q .given .0 .1 .0) (t .read-term .last .1 .1 .1 .1 .1 .0) in
-    (sym (is-met _ _ _ w (e .meet2 .ensures) _ (c .before .r .given .1)) ∙ side-term _ _ _ _ _ _ _ (is-met _ _ _ _ (p .before .before .meet .ensures) _ (p .p .given .1)) _ w (term-is-read _ _ _ _ _ _ _ (t .read-term .ensures .0) _ _ (q .q .given .1)), read-count SYMBOLS _ _ (q .q .given .1) (t .read-term .ensures .1))
+    let w = take (q .q .given .0 .1 .0) (t .read-term .last .1 .1 .1 .1 .1 .0) in (
+      sym (is-met _ _ _ w (e .meet2 .ensures) _ (c .before .r .given .1))
+          ∙ side-term _ _ _ _ _ _ _ (is-met _ _ _ _ (p .before .before .meet .ensures) _ (p .p .given .1)) _ w
+          (term-is-read _ _ _ _ _ _ _ (t .read-term .ensures .0) _ _ (q .q .given .1)),
+      read-count SYMBOLS _ _ (q .q .given .1) (t .read-term .ensures .1),
+    )
 
 same-length-2 : tie.Need-same-length-2
 same-length-2 c = search needs
@@ -65,8 +74,12 @@ returns-2 c =
     let q = e .before .before .before in
     let t = q .before .before .before .before in
     let p = t .before .before .before in
-    let w = take (q .q .given .0 .1 .0) (t .read-term .last .1 .1 .1 .1 .1 .0) in
-    (sym (is-unmet _ _ _ w (e .meet2 .ensures) _ (c .before .r2 .given .1)) ∙ side-term _ _ _ _ _ _ _ (is-met _ _ _ _ (p .before .before .meet .ensures) _ (p .p .given .1)) _ w (term-is-read _ _ _ _ _ _ _ (t .read-term .ensures .0) _ _ (q .q .given .1)), omega arith)
+    let w = take (q .q .given .0 .1 .0) (t .read-term .last .1 .1 .1 .1 .1 .0) in (
+      sym (is-unmet _ _ _ w (e .meet2 .ensures) _ (c .before .r2 .given .1))
+          ∙ side-term _ _ _ _ _ _ _ (is-met _ _ _ _ (p .before .before .meet .ensures) _ (p .p .given .1)) _ w
+          (term-is-read _ _ _ _ _ _ _ (t .read-term .ensures .0) _ _ (q .q .given .1)),
+      omega arith,
+    )
 
 same-length-3 : tie.Need-same-length-3
 same-length-3 c = search needs
@@ -74,8 +87,11 @@ same-length-3 c = search needs
 returns-3 : tie.Need-returns-3
 returns-3 c =
     let t = c .before .before .before .before .before in
-    let p = t .before .before .before in
-    (side-refused _ _ _ _ _ _ _ (is-met _ _ _ _ (p .before .before .meet .ensures) _ (p .p .given .1)) _ (term-is-refused _ _ _ _ _ _ _ (t .read-term .ensures .0) _ (c .before .r3 .given .1)), omega arith)
+    let p = t .before .before .before in (
+      side-refused _ _ _ _ _ _ _ (is-met _ _ _ _ (p .before .before .meet .ensures) _ (p .p .given .1)) _
+          (term-is-refused _ _ _ _ _ _ _ (t .read-term .ensures .0) _ (c .before .r3 .given .1)),
+      omega arith,
+    )
 
 returns-4 : tie.Need-returns-4
 returns-4 c = (side-unmet _ _ _ _ _ _ _ (is-unmet _ _ _ _ (c .before .before .before .meet .ensures) _ (c .before .r4 .given .1)), omega arith)

@@ -24,7 +24,14 @@ slice-reshare-prefix-read-equations c =
 slice-aggregate-read-equations : tie.Need-slice-aggregate-read-equations
 slice-aggregate-read-equations c =
     let h = c .before .before .before .before .before .before in
-    sym (length-take-le _ _ (omega (arith, heading-count FUNCTORS _ _ _ _ (c .before .before .unknowns .given .1) (h .read-header .ensures .1), h .read-header .kept .1 .0, h .before .before .before .before .before .pre .0)))
+    sym
+    (length-take-le _ _
+    (omega (
+      arith,
+      heading-count FUNCTORS _ _ _ _ (c .before .before .unknowns .given .1) (h .read-header .ensures .1),
+      h .read-header .kept .1 .0,
+      h .before .before .before .before .before .pre .0,
+    )))
 
 read-equations-requires : tie.Need-read-equations-requires
 read-equations-requires c κs =
@@ -54,8 +61,14 @@ returns : tie.Need-returns
 returns c =
     let r = c .before .before .before .before .before in
     let u = r .before .before .before .before in
-    let h = u .before .before .before .before in
-    (whole-asked _ _ _ (is-headed _ (h .read-header .ensures .0) _ _ _ _ (u .unknowns .given .1)) _ _ (is-read _ (r .read-equations .ensures .0) _ _ (c .before .n .given .1)), (heading-count FUNCTORS _ _ _ _ (u .unknowns .given .1) (h .read-header .ensures .1), read-count SYMBOLS _ _ (c .before .n .given .1) (r .read-equations .ensures .1)))
+    let h = u .before .before .before .before in (
+      whole-asked _ _ _ (is-headed _ (h .read-header .ensures .0) _ _ _ _ (u .unknowns .given .1)) _ _
+          (is-read _ (r .read-equations .ensures .0) _ _ (c .before .n .given .1)),
+      (
+        heading-count FUNCTORS _ _ _ _ (u .unknowns .given .1) (h .read-header .ensures .1),
+        read-count SYMBOLS _ _ (c .before .n .given .1) (r .read-equations .ensures .1),
+      ),
+    )
 
 same-length-3 : tie.Need-same-length-3
 same-length-3 c = search needs

@@ -28,7 +28,8 @@ returns-2 : tie.Need-returns-2
 returns-2 c =
     let u = c .before .before .before in
     let w = u .before .before .before .before in
-    held-too-long _ _ _ _ _ (w .read-whole .ensures .0) (w .read-whole .kept .1 .0) (w .read-whole .kept .1 .1 .0) (w .read-whole .ensures .1) _ _ _ _ (u .unknowns .given .1) (c .before .if1 .left) (c .if2 .taken)
+    held-too-long _ _ _ _ _ (w .read-whole .ensures .0) (w .read-whole .kept .1 .0) (w .read-whole .kept .1 .1 .0) (w .read-whole .ensures .1) _ _ _ _
+    (u .unknowns .given .1) (c .before .if1 .left) (c .if2 .taken)
 
 slice-aggregate-lay-arities : tie.Need-slice-aggregate-lay-arities
 slice-aggregate-lay-arities c = search needs
@@ -67,7 +68,9 @@ returns-3 c =
     let i = x .before .before .before in
     let u = i .before .before .before in
     let w = u .before .before .before .before in
-    let o = all-laid _ _ _ _ _ (w .read-whole .ensures .0) (w .read-whole .kept .1 .0) (w .read-whole .kept .1 .1 .0) (w .read-whole .ensures .1) _ _ _ _ (u .unknowns .given .1) (i .before .if1 .left) (i .if2 .left) in
+    let o =
+    all-laid _ _ _ _ _ (w .read-whole .ensures .0) (w .read-whole .kept .1 .0) (w .read-whole .kept .1 .1 .0) (w .read-whole .ensures .1) _ _ _ _
+    (u .unknowns .given .1) (i .before .if1 .left) (i .if2 .left) in
     record { told-back = o .told-back; arities-laid = x .lay-arities .ensures ∙ o .arities-laid; words-laid = y .lay-words .ensures ∙ o .words-laid }
 
 returns-4 : tie.Need-returns-4

@@ -40,9 +40,14 @@ slice-aggregate-step-for-2 c = sym (second-length _ _ (c .before .before .before
 
 step-for-requires : tie.Need-step-for-requires
 step-for-requires c κs =
-    let k = term-within (c .before .before .before .before .before .before .before .args .arities .now) (c .before .before .before .before .before .before .before .args .words .now) (c .before .before .before .before .end-of-term .ensures) in
-    let w = second-within _ _ (c .before .before .before .before .end-of-term .ensures) (c .before .before .end-of-term2 .ensures) in
-    (rw (length-first _ k) (omega (arith, c .before .before .before .before .before .before .before .pre)), rw (second-length _ _ (c .before .before .before .before .end-of-term .ensures) (c .before .before .end-of-term2 .ensures)) (omega (arith, c .before .before .before .before .before .before .before .pre)))
+    let at-end-of-term2 = c .before .before in
+    let at-end-of-term = at-end-of-term2 .before .before in
+    let start = at-end-of-term .before .before .before in
+    let k = term-within (start .args .arities .now) (start .args .words .now) (at-end-of-term .end-of-term .ensures) in
+    let w = second-within _ _ (at-end-of-term .end-of-term .ensures) (at-end-of-term2 .end-of-term2 .ensures) in (
+      rw (length-first _ k) (omega (arith, start .pre)),
+      rw (second-length _ _ (at-end-of-term .end-of-term .ensures) (at-end-of-term2 .end-of-term2 .ensures)) (omega (arith, start .pre)),
+    )
 
 add-end : tie.Need-add-end
 add-end c =

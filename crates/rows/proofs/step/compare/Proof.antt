@@ -26,10 +26,22 @@ tails-by-words-requires : tie.Need-tails-by-words-requires
 tails-by-words-requires c κs = search needs
 
 returns-3 : tie.Need-returns-3
-returns-3 c = rw (c .tails-by-words .ensures, c .before .word-of-kernel2 .ensures, c .before .before .word-of-kernel .ensures) (compared-sets _ _ _ (sym (c .before .before .before .before .before .before .before .word-at .ensures) ∙ c .before .before .before .before .before .if1 .left ∙ c .before .before .before .before .before .before .word-at2 .ensures) (λ e. c .before .before .before .before .if2 .left (c .before .before .before .before .before .before .before .word-at .ensures ∙ e)) (sym (c .before .before .before .before .before .before .before .word-at .ensures) ∙ c .before .before .before .if3 .taken))
+returns-3 c =
+    let at-if3 = c .before .before .before in
+    let at-if2 = at-if3 .before in
+    let at-if1 = at-if2 .before in
+    let at-word-at2 = at-if1 .before in
+    let at-word-at = at-word-at2 .before in
+    rw (c .tails-by-words .ensures, c .before .word-of-kernel2 .ensures, c .before .before .word-of-kernel .ensures)
+    (compared-sets _ _ _ (sym (at-word-at .word-at .ensures) ∙ at-if1 .if1 .left ∙ at-word-at2 .word-at2 .ensures)
+    (λ e. at-if2 .if2 .left (at-word-at .word-at .ensures ∙ e)) (sym (at-word-at .word-at .ensures) ∙ at-if3 .if3 .taken))
 
 returns-4 : tie.Need-returns-4
-returns-4 c = compared-functors _ _ _ (sym (c .before .before .before .before .word-at .ensures) ∙ c .before .before .if1 .left ∙ c .before .before .before .word-at2 .ensures) (λ e. c .before .if2 .left (c .before .before .before .before .word-at .ensures ∙ e)) (λ e. c .if3 .left (c .before .before .before .before .word-at .ensures ∙ e))
+returns-4 c =
+    let at-word-at2 = c .before .before .before in
+    let at-word-at = at-word-at2 .before in
+    compared-functors _ _ _ (sym (at-word-at .word-at .ensures) ∙ c .before .before .if1 .left ∙ at-word-at2 .word-at2 .ensures)
+    (λ e. c .before .if2 .left (at-word-at .word-at .ensures ∙ e)) (λ e. c .if3 .left (at-word-at .word-at .ensures ∙ e))
 
 pub compare-spec : {M : Type 1} → statement M
 compare-spec =

@@ -17,10 +17,22 @@ is-unknown-requires-2 : tie.Need-is-unknown-requires-2
 is-unknown-requires-2 c κs = search needs
 
 returns : tie.Need-returns
-returns c = two-same _ _ _ (c .before .before .before .before .before .before .word-at .ensures) (c .before .before .before .before .before .word-at2 .ensures) (sym (c .before .before .before .before .is-unknown .ensures) ∙ c .before .before .before .if1 .taken) (sym (c .before .before .is-unknown2 .ensures) ∙ c .before .if2 .taken) (c .if3 .taken)
+returns c =
+    let at-if1 = c .before .before .before in
+    let at-is-unknown = at-if1 .before in
+    let at-word-at2 = at-is-unknown .before in
+    let at-word-at = at-word-at2 .before in
+    two-same _ _ _ (at-word-at .word-at .ensures) (at-word-at2 .word-at2 .ensures) (sym (at-is-unknown .is-unknown .ensures) ∙ at-if1 .if1 .taken)
+    (sym (c .before .before .is-unknown2 .ensures) ∙ c .before .if2 .taken) (c .if3 .taken)
 
 returns-2 : tie.Need-returns-2
-returns-2 c = two-different _ _ _ (c .before .before .before .before .before .before .word-at .ensures) (c .before .before .before .before .before .word-at2 .ensures) (sym (c .before .before .before .before .is-unknown .ensures) ∙ c .before .before .before .if1 .taken) (sym (c .before .before .is-unknown2 .ensures) ∙ c .before .if2 .taken) (c .if3 .left)
+returns-2 c =
+    let at-if1 = c .before .before .before in
+    let at-is-unknown = at-if1 .before in
+    let at-word-at2 = at-is-unknown .before in
+    let at-word-at = at-word-at2 .before in
+    two-different _ _ _ (at-word-at .word-at .ensures) (at-word-at2 .word-at2 .ensures) (sym (at-is-unknown .is-unknown .ensures) ∙ at-if1 .if1 .taken)
+    (sym (c .before .before .is-unknown2 .ensures) ∙ c .before .if2 .taken) (c .if3 .left)
 
 word-of-kernel-requires : tie.Need-word-of-kernel-requires
 word-of-kernel-requires c κs = search needs
@@ -32,7 +44,17 @@ meet-requires : tie.Need-meet-requires
 meet-requires c κs = search needs
 
 returns-3 : tie.Need-returns-3
-returns-3 c = c .meet .ensures ∙ rw (c .before .tails-by-words .ensures, c .before .before .word-of-kernel .ensures) (left-met _ _ _ (c .before .before .before .before .before .before .before .before .word-at .ensures) (c .before .before .before .before .before .before .before .word-at2 .ensures) (sym (c .before .before .before .before .before .before .is-unknown .ensures) ∙ c .before .before .before .before .before .if1 .taken) (sym (c .before .before .before .before .is-unknown2 .ensures) ∙ c .before .before .before .if2 .left))
+returns-3 c =
+    let at-if2 = c .before .before .before in
+    let at-is-unknown2 = at-if2 .before in
+    let at-if1 = at-is-unknown2 .before in
+    let at-is-unknown = at-if1 .before in
+    let at-word-at2 = at-is-unknown .before in
+    let at-word-at = at-word-at2 .before in
+    c .meet .ensures
+    ∙ rw (c .before .tails-by-words .ensures, c .before .before .word-of-kernel .ensures)
+    (left-met _ _ _ (at-word-at .word-at .ensures) (at-word-at2 .word-at2 .ensures) (sym (at-is-unknown .is-unknown .ensures) ∙ at-if1 .if1 .taken)
+    (sym (at-is-unknown2 .is-unknown2 .ensures) ∙ at-if2 .if2 .left))
 
 is-unknown-requires-3 : tie.Need-is-unknown-requires-3
 is-unknown-requires-3 c κs = search needs
@@ -47,13 +69,30 @@ meet-requires-2 : tie.Need-meet-requires-2
 meet-requires-2 c κs = search needs
 
 returns-4 : tie.Need-returns-4
-returns-4 c = c .meet2 .ensures ∙ rw (c .before .tails-by-words2 .ensures, c .before .before .word-of-kernel2 .ensures) (right-met _ _ _ (c .before .before .before .before .before .before .before .before .word-at .ensures) (c .before .before .before .before .before .before .before .word-at2 .ensures) (sym (c .before .before .before .before .before .before .is-unknown .ensures) ∙ c .before .before .before .before .before .if1 .left) (sym (c .before .before .before .before .is-unknown3 .ensures) ∙ c .before .before .before .if4 .taken))
+returns-4 c =
+    let at-if4 = c .before .before .before in
+    let at-is-unknown3 = at-if4 .before in
+    let at-if1 = at-is-unknown3 .before in
+    let at-is-unknown = at-if1 .before in
+    let at-word-at2 = at-is-unknown .before in
+    let at-word-at = at-word-at2 .before in
+    c .meet2 .ensures
+    ∙ rw (c .before .tails-by-words2 .ensures, c .before .before .word-of-kernel2 .ensures)
+    (right-met _ _ _ (at-word-at .word-at .ensures) (at-word-at2 .word-at2 .ensures) (sym (at-is-unknown .is-unknown .ensures) ∙ at-if1 .if1 .left)
+    (sym (at-is-unknown3 .is-unknown3 .ensures) ∙ at-if4 .if4 .taken))
 
 compare-requires : tie.Need-compare-requires
 compare-requires c κs = search needs
 
 returns-5 : tie.Need-returns-5
-returns-5 c = c .compare .ensures ∙ none-met _ _ _ (c .before .before .before .before .before .before .word-at .ensures) (c .before .before .before .before .before .word-at2 .ensures) (sym (c .before .before .before .before .is-unknown .ensures) ∙ c .before .before .before .if1 .left) (sym (c .before .before .is-unknown3 .ensures) ∙ c .before .if4 .left)
+returns-5 c =
+    let at-if1 = c .before .before .before in
+    let at-is-unknown = at-if1 .before in
+    let at-word-at2 = at-is-unknown .before in
+    let at-word-at = at-word-at2 .before in
+    c .compare .ensures
+    ∙ none-met _ _ _ (at-word-at .word-at .ensures) (at-word-at2 .word-at2 .ensures) (sym (at-is-unknown .is-unknown .ensures) ∙ at-if1 .if1 .left)
+    (sym (c .before .before .is-unknown3 .ensures) ∙ c .before .if4 .left)
 
 pub step-for-spec : {M : Type 1} → statement M
 step-for-spec =

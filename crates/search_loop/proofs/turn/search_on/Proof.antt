@@ -25,7 +25,12 @@ loop-less : tie.Need-loop-less Inv-loop μ-loop
 loop-less c = less (c .before .before .before .before .before .before .before .before .before .before .loop .inv) (c .before .before .before .before .before .before .before .take-turn .ensures) (c .before .turn .given .1)
 
 loop-again : tie.Need-loop-again Inv-loop μ-loop
-loop-again c = again (c .before .before .before .before .before .before .before .before .before .before .loop .inv) (c .before .before .before .before .before .before .before .take-turn .ensures) (c .before .before .before .before .room .given) (c .before .before .before .before .before .before .answers .given) (c .before .turn .given .1)
+loop-again c =
+    let at-room = c .before .before .before .before in
+    let at-answers = at-room .before .before in
+    let at-take-turn = at-answers .before in
+    let turn = at-take-turn .before .before .before in
+    again (turn .loop .inv) (at-take-turn .take-turn .ensures) (at-room .room .given) (at-answers .answers .given) (c .before .turn .given .1)
 
 enum-known-turn-2 : tie.Need-enum-known-turn-2 Inv-loop μ-loop
 enum-known-turn-2 c = search needs

@@ -49,7 +49,17 @@ enum-known-next : tie.Need-enum-known-next
 enum-known-next c = search needs
 
 with-nodes-requires : tie.Need-with-nodes-requires
-with-nodes-requires c κs = let R = c .before .before .before .before .before .before .before .before .before .before .before .before .before .before .before .pre .1 in omega (arith, spent-few R (number-here R (c .before .before .before .before .before .before .before .before .number-in .ensures)) (c .before .before .before .before .before .before .before .most-passed .ensures) (c .before .before .before .before .before .look .ensures) (c .before .next .given .1))
+with-nodes-requires c κs =
+    let at-look = c .before .before .before .before .before in
+    let at-most-passed = at-look .before .before in
+    let at-number-in = at-most-passed .before in
+    let start = at-number-in .before .before .before .before .before .before .before in
+    let R = start .pre .1 in
+    omega (
+      arith,
+      spent-few R (number-here R (at-number-in .number-in .ensures)) (at-most-passed .most-passed .ensures) (at-look .look .ensures)
+          (c .before .next .given .1),
+    )
 
 back-requires : tie.Need-back-requires
 back-requires c κs = search needs
@@ -61,7 +71,17 @@ enum-known-next-2 : tie.Need-enum-known-next-2
 enum-known-next-2 c = search needs
 
 with-nodes-requires-2 : tie.Need-with-nodes-requires-2
-with-nodes-requires-2 c κs = let R = c .before .before .before .before .before .before .before .before .before .before .before .before .before .before .before .pre .1 in omega (arith, due-few-steps R (number-here R (c .before .before .before .before .before .before .before .before .number-in .ensures)) (c .before .before .before .before .before .before .before .most-passed .ensures) (c .before .before .before .before .before .look .ensures) (c .before .next2 .given .1))
+with-nodes-requires-2 c κs =
+    let at-look = c .before .before .before .before .before in
+    let at-most-passed = at-look .before .before in
+    let at-number-in = at-most-passed .before in
+    let start = at-number-in .before .before .before .before .before .before .before in
+    let R = start .pre .1 in
+    omega (
+      arith,
+      due-few-steps R (number-here R (at-number-in .number-in .ensures)) (at-most-passed .most-passed .ensures) (at-look .look .ensures)
+          (c .before .next2 .given .1),
+    )
 
 due-requires : tie.Need-due-requires
 due-requires c κs = search needs
@@ -70,13 +90,43 @@ enum-known-next-3 : tie.Need-enum-known-next-3
 enum-known-next-3 c = search needs
 
 with-nodes-requires-3 : tie.Need-with-nodes-requires-3
-with-nodes-requires-3 c κs = let R = c .before .before .before .before .before .before .before .before .before .before .before .before .before .before .before .before .before .pre .1 in omega (arith, node-few-steps R (number-here R (c .before .before .before .before .before .before .before .before .before .before .number-in .ensures)) (c .before .before .before .before .before .before .before .before .before .most-passed .ensures) (c .before .before .before .before .before .before .before .look .ensures) (c .before .before .before .next3 .given .1) .0)
+with-nodes-requires-3 c κs =
+    let at-next3 = c .before .before .before in
+    let at-look = at-next3 .before .before .before .before in
+    let at-most-passed = at-look .before .before in
+    let at-number-in = at-most-passed .before in
+    let start = at-number-in .before .before .before .before .before .before .before in
+    let R = start .pre .1 in
+    omega (
+      arith,
+      node-few-steps R (number-here R (at-number-in .number-in .ensures)) (at-most-passed .most-passed .ensures) (at-look .look .ensures)
+          (at-next3 .next3 .given .1) .0,
+    )
 
 add-meet : tie.Need-add-meet
-add-meet c = let R = c .before .before .before .before .before .before .before .before .before .before .before .before .before .before .before .before .before .before .pre .1 in omega (arith, node-few-steps R (number-here R (c .before .before .before .before .before .before .before .before .before .before .before .number-in .ensures)) (c .before .before .before .before .before .before .before .before .before .before .most-passed .ensures) (c .before .before .before .before .before .before .before .before .look .ensures) (c .before .before .before .before .next3 .given .1) .1)
+add-meet c =
+    let at-next3 = c .before .before .before .before in
+    let at-look = at-next3 .before .before .before .before in
+    let at-most-passed = at-look .before .before in
+    let at-number-in = at-most-passed .before in
+    let start = at-number-in .before .before .before .before .before .before .before in
+    let R = start .pre .1 in
+    omega (
+      arith,
+      node-few-steps R (number-here R (at-number-in .number-in .ensures)) (at-most-passed .most-passed .ensures) (at-look .look .ensures)
+          (at-next3 .next3 .given .1) .1,
+    )
 
 meet-requires : tie.Need-meet-requires
-meet-requires c κs = let R = c .before .before .before .before .before .before .before .before .before .before .before .before .before .before .before .before .before .before .pre .1 in hears-parts R (number-here R (c .before .before .before .before .before .before .before .before .before .before .before .number-in .ensures)) (c .before .before .before .before .before .before .before .before .before .before .most-passed .ensures) (c .before .before .before .before .before .before .before .before .look .ensures) (c .before .before .before .before .next3 .given .1) (c .with-nodes3 .ensures)
+meet-requires c κs =
+    let at-next3 = c .before .before .before .before in
+    let at-look = at-next3 .before .before .before .before in
+    let at-most-passed = at-look .before .before in
+    let at-number-in = at-most-passed .before in
+    let start = at-number-in .before .before .before .before .before .before .before in
+    let R = start .pre .1 in
+    hears-parts R (number-here R (at-number-in .number-in .ensures)) (at-most-passed .most-passed .ensures) (at-look .look .ensures) (at-next3 .next3 .given .1)
+    (c .with-nodes3 .ensures)
 
 add-shown-then : tie.Need-add-shown-then
 add-shown-then c = let R = c .before .before .before .before .before .before .before .before .before .before .before .before .before .before .before .before .before .before .before .before .before .before .before .pre .1 in omega (arith, R .deep, R .suits .depth)
@@ -88,13 +138,27 @@ same-length : tie.Need-same-length
 same-length c = search needs
 
 returns : tie.Need-returns
-returns c = λ to R. hears-spent R (number-here R (c .before .before .before .before .before .before .before .before .before .before .before .number-in .ensures)) (c .before .before .before .before .before .before .before .before .before .before .most-passed .ensures) (c .before .before .before .before .before .before .before .before .look .ensures) (c .before .before .before .before .next .given .1) (c .before .before .with-nodes .ensures) (c .before .back .ensures) (c .shown-then .ensures)
+returns c =
+    let at-next = c .before .before .before .before in
+    let at-look = at-next .before .before .before .before in
+    let at-most-passed = at-look .before .before in
+    let at-number-in = at-most-passed .before in
+    λ to R.
+    hears-spent R (number-here R (at-number-in .number-in .ensures)) (at-most-passed .most-passed .ensures) (at-look .look .ensures) (at-next .next .given .1)
+    (c .before .before .with-nodes .ensures) (c .before .back .ensures) (c .shown-then .ensures)
 
 same-length-2 : tie.Need-same-length-2
 same-length-2 c = search needs
 
 returns-2 : tie.Need-returns-2
-returns-2 c = λ to R. hears-due R (number-here R (c .before .before .before .before .before .before .before .before .before .before .number-in .ensures)) (c .before .before .before .before .before .before .before .before .before .most-passed .ensures) (c .before .before .before .before .before .before .before .look .ensures) (c .before .before .before .next2 .given .1) (c .before .with-nodes2 .ensures) (c .due .ensures)
+returns-2 c =
+    let at-next2 = c .before .before .before in
+    let at-look = at-next2 .before .before .before .before in
+    let at-most-passed = at-look .before .before in
+    let at-number-in = at-most-passed .before in
+    λ to R.
+    hears-due R (number-here R (at-number-in .number-in .ensures)) (at-most-passed .most-passed .ensures) (at-look .look .ensures) (at-next2 .next2 .given .1)
+    (c .before .with-nodes2 .ensures) (c .due .ensures)
 
 same-length-3 : tie.Need-same-length-3
 same-length-3 c = search needs
@@ -103,7 +167,16 @@ same-length-4 : tie.Need-same-length-4
 same-length-4 c = search needs
 
 returns-3 : tie.Need-returns-3
-returns-3 c = λ to R. hears-node R (number-here R (c .before .before .before .before .before .before .before .before .before .before .before .before .before .before .before .before .before .number-in .ensures)) (c .before .before .before .before .before .before .before .before .before .before .before .before .before .before .before .before .most-passed .ensures) (c .before .before .before .before .before .before .before .before .before .before .before .before .before .before .look .ensures) (c .before .before .before .before .before .before .before .before .before .before .next3 .given .1) (c .before .before .before .before .before .before .with-nodes3 .ensures) (c .before .before .before .before .before .meet .ensures) (c .shown-then2 .ensures)
+returns-3 c =
+    let at-meet = c .before .before .before .before .before in
+    let at-with-nodes3 = at-meet .before in
+    let at-next3 = at-with-nodes3 .before .before .before .before in
+    let at-look = at-next3 .before .before .before .before in
+    let at-most-passed = at-look .before .before in
+    let at-number-in = at-most-passed .before in
+    λ to R.
+    hears-node R (number-here R (at-number-in .number-in .ensures)) (at-most-passed .most-passed .ensures) (at-look .look .ensures) (at-next3 .next3 .given .1)
+    (at-with-nodes3 .with-nodes3 .ensures) (at-meet .meet .ensures) (c .shown-then2 .ensures)
 
 pub take-turn-spec : {M : Type 1} → statement M
 take-turn-spec =

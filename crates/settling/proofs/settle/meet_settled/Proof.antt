@@ -34,7 +34,11 @@ same-length : tie.Need-same-length Inv-loop μ-loop
 same-length c = c .before .before .before .same .kept .1 .1 .1 .1 .0 ∙ since-length (c .before .before .before .before .before .before .before .before .loop .inv .since)
 
 returns : tie.Need-returns Inv-loop μ-loop
-returns c = passing-yes (c .before .before .before .before .before .before .before .before .loop .inv) (c .before .before .before .before .before .before .before .loop-test .taken) (c .before .before .before .before .before .if1 .taken) (c .before .before .before .same .ensures) (c .if2 .taken)
+returns c =
+    let at-same = c .before .before .before in
+    let at-if1 = at-same .before .before in
+    let turn = at-if1 .before .before in
+    passing-yes (turn .before .loop .inv) (turn .loop-test .taken) (at-if1 .if1 .taken) (at-same .same .ensures) (c .if2 .taken)
 
 add-q-2 : tie.Need-add-q-2 Inv-loop μ-loop
 add-q-2 c = let l = c .before .before .before .before .before .before .before .loop-test .taken in omega arith
@@ -43,7 +47,11 @@ loop-less : tie.Need-loop-less Inv-loop μ-loop
 loop-less c = let l = c .before .before .before .before .before .before .before .loop-test .taken in omega arith
 
 loop-again : tie.Need-loop-again Inv-loop μ-loop
-loop-again c = passing-no (c .before .before .before .before .before .before .before .before .loop .inv) (c .before .before .before .before .before .before .before .loop-test .taken) (c .before .before .before .before .before .if1 .taken) (c .before .before .before .same .ensures) (c .if2 .left)
+loop-again c =
+    let at-same = c .before .before .before in
+    let at-if1 = at-same .before .before in
+    let turn = at-if1 .before .before in
+    passing-no (turn .before .loop .inv) (turn .loop-test .taken) (at-if1 .if1 .taken) (at-same .same .ensures) (c .if2 .left)
 
 add-q-3 : tie.Need-add-q-3 Inv-loop μ-loop
 add-q-3 c = let l = c .before .before .loop-test .taken in omega arith

@@ -27,16 +27,23 @@ meet-settled-requires : tie.Need-meet-settled-requires Inv-loop μ-loop
 meet-settled-requires c κs = going-settling (c .before .before .before .before .before .loop .inv) (c .before .before .before .before .loop-test .taken) (c .before .before .if1 .taken)
 
 mul-settled : tie.Need-mul-settled Inv-loop μ-loop
-mul-settled c = let w = c .before .before .before .before .before .before .before .before .loop .inv in let i = going-in w (c .before .before .before .before .before .before .before .loop-test .taken) in omega (arith, i, w .ranked .long)
+mul-settled c =
+    let turn = c .before .before .before .before .before .before .before in
+    let w = turn .before .loop .inv in let i = going-in w (turn .loop-test .taken) in omega (arith, i, w .ranked .long)
 
 slice-write-settled : tie.Need-slice-write-settled Inv-loop μ-loop
-slice-write-settled c = let w = c .before .before .before .before .before .before .before .before .loop .inv in let i = going-in w (c .before .before .before .before .before .before .before .loop-test .taken) in omega (arith, i, w .ranked .long)
+slice-write-settled c =
+    let turn = c .before .before .before .before .before .before .before in
+    let w = turn .before .loop .inv in let i = going-in w (turn .loop-test .taken) in omega (arith, i, w .ranked .long)
 
 loop-less : tie.Need-loop-less Inv-loop μ-loop
 loop-less c = let z = c .before .before .before .before .before .before .before .loop-test .taken in omega arith
 
 loop-again : tie.Need-loop-again Inv-loop μ-loop
-loop-again c = going-on (c .before .before .before .before .before .before .before .before .loop .inv) (c .before .before .before .before .before .before .before .loop-test .taken) (c .before .before .before .before .before .if1 .taken) (c .before .before .meet-settled .ensures)
+loop-again c =
+    let at-if1 = c .before .before .before .before .before in
+    let turn = at-if1 .before .before in
+    going-on (turn .before .loop .inv) (turn .loop-test .taken) (at-if1 .if1 .taken) (c .before .before .meet-settled .ensures)
 
 loop-less-2 : tie.Need-loop-less-2 Inv-loop μ-loop
 loop-less-2 c = let z = c .before .before .loop-test .taken in omega arith

@@ -46,7 +46,9 @@ read-term-below t =
     and 3 read-term-kinds.ps (falls 3 read-term-kinds.ps _<_ μ-read-term t) read-term.Pre
 
 abbrev read-list-Inv-loop : read-list-lts.InvT-loop
-read-list-Inv-loop text at unknowns arities depth words₀ n item₀ p₀ m₀ words item p m = ((g : Got) (l : List ℕ) → List-read text unknowns arities depth item p (take m words) g l → List-read text unknowns arities depth item₀ at (take n words₀) g l) × (length words ≡ SYMBOLS) × (m ≤ SYMBOLS) × (at ≤ p) × (p ≤ length text)
+read-list-Inv-loop text at unknowns arities depth words₀ n item₀ p₀ m₀ words item p m =
+    ((g : Got) (l : List ℕ) → List-read text unknowns arities depth item p (take m words) g l → List-read text unknowns arities depth item₀ at (take n words₀) g l)
+    × (length words ≡ SYMBOLS) × (m ≤ SYMBOLS) × (at ≤ p) × (p ≤ length text)
 
 abbrev read-list-μ-loop : read-list-lts.MeasureT-loop
 read-list-μ-loop text at unknowns arities depth words₀ n item₀ p₀ m₀ words item p m = length text - p
@@ -125,8 +127,13 @@ read-list-loop-again t c =
     let l = t .before .before .loop in
     let T = term-is-read _ _ _ _ _ _ _ (t .read-term .ensures .0) _ _ (f .before .before .before .q .given .1) in
     let F = is-due _ (f .pass .ensures .0) _ _ _ (c .before .i .given .1) in
-    let w = next-ahead _ _ _ _ _ _ _ _ _ T _ _ (l .inv .4) F in
-    (λ g m L. l .inv .0 g m (list-more _ _ _ _ _ _ _ _ _ T _ _ _ g m (l .inv .4) F L), f .pass .kept .1 .1 .1 .0 ∙ t .read-term .kept .1 .1 .1 .1 .1 .0 ∙ l .inv .1, due-count SYMBOLS _ _ _ (c .before .i .given .1) (f .pass .ensures .1), omega arith, w .1)
+    let w = next-ahead _ _ _ _ _ _ _ _ _ T _ _ (l .inv .4) F in (
+      λ g m L. l .inv .0 g m (list-more _ _ _ _ _ _ _ _ _ T _ _ _ g m (l .inv .4) F L),
+      f .pass .kept .1 .1 .1 .0 ∙ t .read-term .kept .1 .1 .1 .1 .1 .0 ∙ l .inv .1,
+      due-count SYMBOLS _ _ _ (c .before .i .given .1) (f .pass .ensures .1),
+      omega arith,
+      w .1,
+    )
 
 read-list-enum-known-r : (t : ℕ) → read-list-lts.Need-enum-known-r (
   read-term-below t,
@@ -155,12 +162,16 @@ read-list-returns : (t : ℕ) → read-list-lts.Need-returns (
   pass-reads.Learnt,
 ) (read-list-at t) read-list.Post read-list-Inv-loop read-list-μ-loop
 read-list-returns t c =
-    let f = c .before .before .before .before .before in
+    let at-r = c .before in
+    let f = at-r .before .before .before .before in
     let t = f .before .before .before .before .before .before .before in
     let l = t .before .before .loop in
     let T = term-is-read _ _ _ _ _ _ _ (t .read-term .ensures .0) _ _ (f .before .before .before .q .given .1) in
-    let F = is-done _ (f .pass .ensures .0) _ _ (c .before .r .given .1) in
-    (l .inv .0 (Read (c .before .r .given .0 .0) (c .before .r .given .0 .1 .0)) (f .pass .last .1 .1 .1 .0) (list-done _ _ _ _ _ _ _ _ _ T _ (c .before .r .given .0 .1 .0) (f .pass .last .1 .1 .1 .0) F), done-count SYMBOLS _ _ (c .before .r .given .1) (f .pass .ensures .1))
+    let F = is-done _ (f .pass .ensures .0) _ _ (at-r .r .given .1) in (
+      l .inv .0 (Read (at-r .r .given .0 .0) (at-r .r .given .0 .1 .0)) (f .pass .last .1 .1 .1 .0)
+          (list-done _ _ _ _ _ _ _ _ _ T _ (at-r .r .given .0 .1 .0) (f .pass .last .1 .1 .1 .0) F),
+      done-count SYMBOLS _ _ (at-r .r .given .1) (f .pass .ensures .1),
+    )
 
 read-list-enum-known-r-2 : (t : ℕ) → read-list-lts.Need-enum-known-r-2 (
   read-term-below t,
@@ -302,8 +313,11 @@ read-term-returns t c =
     let r = c .before .before in
     let i = r .before .before .before in
     let g = i .before .before .before .before in
-    let p = g .before .before .before .before .before .pre .1 in
-    (term-list _ _ _ _ _ _ _ _ _ (r .read-list .result) (r .read-list .last .1 .1 .1 .1 .1 .1 .0) (p .1) (is-due _ (g .begin .ensures .0) _ _ _ (i .item .given .1)) (r .read-list .ensures .0), r .read-list .ensures .1)
+    let p = g .before .before .before .before .before .pre .1 in (
+      term-list _ _ _ _ _ _ _ _ _ (r .read-list .result) (r .read-list .last .1 .1 .1 .1 .1 .1 .0) (p .1)
+          (is-due _ (g .begin .ensures .0) _ _ _ (i .item .given .1)) (r .read-list .ensures .0),
+      r .read-list .ensures .1,
+    )
 
 read-term-same-length-2 : (t : ℕ) → read-term-lts.Need-same-length-2 (
   begin-reads.Asked,
@@ -320,8 +334,11 @@ read-term-returns-2 : (t : ℕ) → read-term-lts.Need-returns-2 (
   read-list.Post,
 ) (read-term-at t) read-term.Post
 read-term-returns-2 t c =
-    let g = c .before .before .before .before .before in
-    (term-done _ _ _ _ _ _ _ (c .before .p .given .0 .1 .0) (g .begin .last .1 .1 .1 .1 .1 .0) (is-done _ (g .begin .ensures .0) _ _ (c .before .p .given .1)), done-count SYMBOLS _ _ (c .before .p .given .1) (g .begin .ensures .1))
+    let at-p = c .before in
+    let g = at-p .before .before .before .before in (
+      term-done _ _ _ _ _ _ _ (at-p .p .given .0 .1 .0) (g .begin .last .1 .1 .1 .1 .1 .0) (is-done _ (g .begin .ensures .0) _ _ (at-p .p .given .1)),
+      done-count SYMBOLS _ _ (at-p .p .given .1) (g .begin .ensures .1),
+    )
 
 read-term-same-length-3 : (t : ℕ) → read-term-lts.Need-same-length-3 (
   begin-reads.Asked,

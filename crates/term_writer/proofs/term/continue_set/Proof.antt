@@ -49,13 +49,20 @@ begin-tail-requires-2 : tie.Need-begin-tail-requires-2
 begin-tail-requires-2 c κs = search needs
 
 same-length : tie.Need-same-length
-same-length c = c .before .before .before .before .close .kept .0 ∙ length-set (c .before .before .before .before .before .before .before .before .before .before .before .args .stack .now) (c .before .before .before .before .before .before .before .before .before .before .before .args .depth - 1) 2
+same-length c =
+    let at-close = c .before .before .before .before in
+    let start = at-close .before .before .before .before .before .before .before in
+    at-close .close .kept .0 ∙ length-set (start .args .stack .now) (start .args .depth - 1) 2
 
 same-length-2 : tie.Need-same-length-2
 same-length-2 c = search needs
 
 returns : tie.Need-returns
-returns c = continued-empty _ _ (c .before .before .before .before .before .before .before .before .before .before .before .pre .0) (c .before .before .before .before .before .before .before .before .before .before .before .pre .1) _ _ (c .before .before .before .before .before .before .before .enum-told .given .1) (c .before .before .before .before .close .ensures)
+returns c =
+    let at-close = c .before .before .before .before in
+    let at-enum-told = at-close .before .before .before in
+    let start = at-enum-told .before .before .before .before in
+    continued-empty _ _ (start .pre .0) (start .pre .1) _ _ (at-enum-told .enum-told .given .1) (at-close .close .ensures)
 
 same-length-3 : tie.Need-same-length-3
 same-length-3 c = search needs
@@ -64,7 +71,10 @@ same-length-4 : tie.Need-same-length-4
 same-length-4 c = search needs
 
 returns-2 : tie.Need-returns-2
-returns-2 c = continued-adding _ _ (c .before .before .before .before .before .before .before .before .pre .0) (c .before .before .before .before .before .before .before .before .pre .1) _ _ (c .before .before .before .before .enum-told2 .given .1) (c .before .before .put-byte .ensures)
+returns-2 c =
+    let at-enum-told2 = c .before .before .before .before in
+    let start = at-enum-told2 .before .before .before .before in
+    continued-adding _ _ (start .pre .0) (start .pre .1) _ _ (at-enum-told2 .enum-told2 .given .1) (c .before .before .put-byte .ensures)
 
 same-length-5 : tie.Need-same-length-5
 same-length-5 c = search needs

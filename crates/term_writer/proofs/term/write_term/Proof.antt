@@ -37,16 +37,29 @@ add-p : tie.Need-add-p Inv-loop μ-loop
 add-p c = search needs
 
 same-length : tie.Need-same-length Inv-loop μ-loop
-same-length c = c .before .before .before .before .before .before .before .write-word .kept .1 .1 .1 .0 ∙ c .before .before .before .before .before .before .before .before .before .before .before .before .before .loop .inv .kept
+same-length c =
+    let at-write-word = c .before .before .before .before .before .before .before in
+    let turn = at-write-word .before .before .before .before .before .before in
+    at-write-word .write-word .kept .1 .1 .1 .0 ∙ turn .loop .inv .kept
 
 returns : tie.Need-returns Inv-loop μ-loop
-returns c = left-ended (c .before .before .before .before .before .before .before .before .before .before .before .before .before .loop .inv) (c .before .before .before .before .before .before .before .before .before .before .before .before .loop-test .taken) _ (c .before .before .before .before .before .before .before .before .before .before .symbol-of .ensures) _ (c .before .before .before .before .before .before .before .write-word .ensures) (c .before .before .pen .given .1) (c .if1 .taken)
+returns c =
+    let at-write-word = c .before .before .before .before .before .before .before in
+    let at-symbol-of = at-write-word .before .before .before in
+    let turn = at-symbol-of .before .before in
+    left-ended (turn .before .loop .inv) (turn .loop-test .taken) _ (at-symbol-of .symbol-of .ensures) _ (at-write-word .write-word .ensures)
+    (c .before .before .pen .given .1) (c .if1 .taken)
 
 loop-less : tie.Need-loop-less Inv-loop μ-loop
 loop-less c = search needs
 
 loop-again : tie.Need-loop-again Inv-loop μ-loop
-loop-again c = left-more (c .before .before .before .before .before .before .before .before .before .before .before .before .before .loop .inv) (c .before .before .before .before .before .before .before .before .before .before .before .before .loop-test .taken) _ (c .before .before .before .before .before .before .before .before .before .before .symbol-of .ensures) _ (c .before .before .before .before .before .before .before .write-word .ensures) (c .before .before .pen .given .1) (c .if1 .left) (c .before .before .before .before .before .before .before .write-word .kept .1 .0 ∙ c .before .before .before .before .before .before .before .before .before .before .before .before .before .loop .inv .full)
+loop-again c =
+    let at-write-word = c .before .before .before .before .before .before .before in
+    let at-symbol-of = at-write-word .before .before .before in
+    let turn = at-symbol-of .before .before in
+    left-more (turn .before .loop .inv) (turn .loop-test .taken) _ (at-symbol-of .symbol-of .ensures) _ (at-write-word .write-word .ensures)
+    (c .before .before .pen .given .1) (c .if1 .left) (at-write-word .write-word .kept .1 .0 ∙ turn .before .loop .inv .full)
 
 enum-told : tie.Need-enum-told Inv-loop μ-loop
 enum-told c = search needs
@@ -55,7 +68,12 @@ same-length-2 : tie.Need-same-length-2 Inv-loop μ-loop
 same-length-2 c = c .before .before .before .before .before .write-word .kept .1 .1 .1 .0 ∙ c .before .before .before .before .before .before .before .before .before .before .before .loop .inv .kept
 
 returns-2 : tie.Need-returns-2 Inv-loop μ-loop
-returns-2 c = left-deep (c .before .before .before .before .before .before .before .before .before .before .before .loop .inv) (c .before .before .before .before .before .before .before .before .before .before .loop-test .taken) _ (c .before .before .before .before .before .before .before .before .symbol-of .ensures) (c .before .before .before .before .before .write-word .ensures) (c .enum-told .given .1)
+returns-2 c =
+    let at-write-word = c .before .before .before .before .before in
+    let at-symbol-of = at-write-word .before .before .before in
+    let turn = at-symbol-of .before .before in
+    left-deep (turn .before .loop .inv) (turn .loop-test .taken) _ (at-symbol-of .symbol-of .ensures) (at-write-word .write-word .ensures)
+    (c .enum-told .given .1)
 
 same-length-3 : tie.Need-same-length-3 Inv-loop μ-loop
 same-length-3 c = c .before .loop .inv .kept

@@ -22,7 +22,11 @@ same-length-2 : tie.Need-same-length-2
 same-length-2 c = search needs
 
 returns : tie.Need-returns
-returns c = word-rest _ _ _ _ (c .before .before .before .before .before .before .before .before .before .if1 .taken) (c .before .before .before .before .before .before .before .if2 .taken) (c .before .before .before .before .continue-set .ensures)
+returns c =
+    let at-continue-set = c .before .before .before .before in
+    let at-if2 = at-continue-set .before .before .before in
+    let at-if1 = at-if2 .before .before in
+    word-rest _ _ _ _ (at-if1 .if1 .taken) (at-if2 .if2 .taken) (at-continue-set .continue-set .ensures)
 
 begin-requires : tie.Need-begin-requires
 begin-requires c κs = search needs
@@ -34,7 +38,11 @@ same-length-4 : tie.Need-same-length-4
 same-length-4 c = search needs
 
 returns-2 : tie.Need-returns-2
-returns-2 c = word-other _ _ _ _ (c .before .before .before .before .before .before .before .before .before .if1 .taken) (c .before .before .before .before .before .before .before .if2 .left) (c .before .before .before .before .begin .ensures)
+returns-2 c =
+    let at-begin = c .before .before .before .before in
+    let at-if2 = at-begin .before .before .before in
+    let at-if1 = at-if2 .before .before in
+    word-other _ _ _ _ (at-if1 .if1 .taken) (at-if2 .if2 .left) (at-begin .begin .ensures)
 
 begin-requires-2 : tie.Need-begin-requires-2
 begin-requires-2 c κs = search needs

@@ -60,7 +60,13 @@ same-length-2 : tie.Need-same-length-2
 same-length-2 c = search needs
 
 returns : tie.Need-returns
-returns c = opened-held (c .before .before .before .before .before .before .before .before .before .before .before .before .before .before .before .before .before .pre) _ (c .before .before .before .before .before .before .before .before .before .before .before .before .set-number .ensures) (c .before .before .before .before .before .before .before .before .before .with-nodes .ensures) refl (c .before .before .before .before .before .note .ensures) (c .before .noted .given .1)
+returns c =
+    let at-note = c .before .before .before .before .before in
+    let at-with-nodes = at-note .before .before .before .before in
+    let at-set-number = at-with-nodes .before .before .before in
+    let start = at-set-number .before .before .before .before .before in
+    opened-held (start .pre) _ (at-set-number .set-number .ensures) (at-with-nodes .with-nodes .ensures) refl (at-note .note .ensures)
+    (c .before .noted .given .1)
 
 same-length-3 : tie.Need-same-length-3
 same-length-3 c = search needs
@@ -69,7 +75,12 @@ same-length-4 : tie.Need-same-length-4
 same-length-4 c = search needs
 
 returns-2 : tie.Need-returns-2
-returns-2 c = opened-space (c .before .before .before .before .before .before .before .before .before .before .before .before .before .before .before .before .pre) _ (c .before .before .before .before .before .before .before .before .before .before .before .set-number .ensures) (c .before .before .before .before .before .before .before .before .with-nodes .ensures) refl (c .before .before .before .before .note .ensures) (c .enum-told .given .1)
+returns-2 c =
+    let at-note = c .before .before .before .before in
+    let at-with-nodes = at-note .before .before .before .before in
+    let at-set-number = at-with-nodes .before .before .before in
+    let start = at-set-number .before .before .before .before .before in
+    opened-space (start .pre) _ (at-set-number .set-number .ensures) (at-with-nodes .with-nodes .ensures) refl (at-note .note .ensures) (c .enum-told .given .1)
 
 pub enter-spec : {M : Type 1} → statement M
 enter-spec =

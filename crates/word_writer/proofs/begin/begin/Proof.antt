@@ -52,7 +52,12 @@ same-length-2 : tie.Need-same-length-2
 same-length-2 c = search needs
 
 returns : tie.Need-returns
-returns c = begun-constant _ _ _ (c .before .before .before .before .close3 .ensures) _ _ (c .before .before .before .before .before .before .before .before .before .before .before .before .before .symbol2 .given .1) (c .before .before .before .before .before .before .before .if1 .taken) (c .before .before .before .before .before .before .before .before .before .before .put-name2 .ensures)
+returns c =
+    let at-close3 = c .before .before .before .before in
+    let at-if1 = at-close3 .before .before .before in
+    let at-put-name2 = at-if1 .before .before .before in
+    let at-symbol2 = at-put-name2 .before .before .before in
+    begun-constant _ _ _ (at-close3 .close3 .ensures) _ _ (at-symbol2 .symbol2 .given .1) (at-if1 .if1 .taken) (at-put-name2 .put-name2 .ensures)
 
 wide-requires : tie.Need-wide-requires
 wide-requires c κs = search needs
@@ -73,7 +78,11 @@ same-length-4 : tie.Need-same-length-4
 same-length-4 c = search needs
 
 returns-2 : tie.Need-returns-2
-returns-2 c = begun-empty _ _ _ (c .before .before .before .before .close .ensures) (c .before .before .before .before .before .before .before .before .before .before .before .before .enum-told .given .1) (c .before .before .before .before .before .before .before .before .before .put-bytes .ensures)
+returns-2 c =
+    let at-close = c .before .before .before .before in
+    let at-put-bytes = at-close .before .before .before .before .before in
+    let at-enum-told = at-put-bytes .before .before .before in
+    begun-empty _ _ _ (at-close .close .ensures) (at-enum-told .enum-told .given .1) (at-put-bytes .put-bytes .ensures)
 
 same-length-5 : tie.Need-same-length-5
 same-length-5 c = search needs
@@ -91,7 +100,11 @@ same-length-8 : tie.Need-same-length-8
 same-length-8 c = search needs
 
 returns-4 : tie.Need-returns-4
-returns-4 c = begun-unknown _ _ _ (c .before .before .before .before .close2 .ensures) _ (c .before .before .before .before .before .before .before .before .before .before .before .before .symbol .given .1) (c .before .before .before .before .before .before .before .before .before .put-name .ensures)
+returns-4 c =
+    let at-close2 = c .before .before .before .before in
+    let at-put-name = at-close2 .before .before .before .before .before in
+    let at-symbol = at-put-name .before .before .before in
+    begun-unknown _ _ _ (at-close2 .close2 .ensures) _ (at-symbol .symbol .given .1) (at-put-name .put-name .ensures)
 
 same-length-9 : tie.Need-same-length-9
 same-length-9 c = search needs
@@ -100,7 +113,14 @@ same-length-10 : tie.Need-same-length-10
 same-length-10 c = search needs
 
 returns-5 : tie.Need-returns-5
-returns-5 c = begun-arguments _ _ _ _ _ (c .before .before .before .before .before .before .before .before .before .before .before .before .before .before .symbol2 .given .1) (c .before .before .before .before .before .before .before .before .if1 .left) _ (c .before .before .before .before .before .before .wide .ensures) (c .before .before .before .before .before .before .before .before .before .before .before .put-name2 .ensures) (c .before .before .before .before .open-bracket2 .ensures)
+returns-5 c =
+    let at-open-bracket2 = c .before .before .before .before in
+    let at-wide = at-open-bracket2 .before .before in
+    let at-if1 = at-wide .before .before in
+    let at-put-name2 = at-if1 .before .before .before in
+    let at-symbol2 = at-put-name2 .before .before .before in
+    begun-arguments _ _ _ _ _ (at-symbol2 .symbol2 .given .1) (at-if1 .if1 .left) _ (at-wide .wide .ensures) (at-put-name2 .put-name2 .ensures)
+    (at-open-bracket2 .open-bracket2 .ensures)
 
 pub begin-spec : {M : Type 1} → statement M
 begin-spec =

@@ -22,13 +22,20 @@ begin-requires : tie.Need-begin-requires
 begin-requires c κs = search needs
 
 same-length : tie.Need-same-length
-same-length c = c .before .before .before .before .begin .kept .1 .0 ∙ length-set (c .before .before .before .before .before .before .before .before .before .before .before .before .before .args .stack .now) (c .before .before .before .before .before .before .before .before .before .before .before .before .before .args .depth - 1) 2
+same-length c =
+    let at-begin = c .before .before .before .before in
+    let start = at-begin .before .before .before .before .before .before .before .before .before in
+    at-begin .begin .kept .1 .0 ∙ length-set (start .args .stack .now) (start .args .depth - 1) 2
 
 same-length-2 : tie.Need-same-length-2
 same-length-2 c = search needs
 
 returns : tie.Need-returns
-returns c = tail-begun (c .before .before .before .before .before .before .before .before .before .before .before .before .before .args .stack .now) _ (c .before .before .before .before .before .before .before .before .before .before .before .before .before .pre .0) (c .before .before .before .before .before .before .before .before .before .before .before .before .before .pre .1) (c .before .before .before .before .before .before .before .before .before .before .before .before .before .args .symbol) (c .before .before .before .before .before .before .before .before .before .put-byte .ensures) (c .before .before .before .before .begin .ensures)
+returns c =
+    let at-begin = c .before .before .before .before in
+    let at-put-byte = at-begin .before .before .before .before .before in
+    let start = at-put-byte .before .before .before .before in
+    tail-begun (start .args .stack .now) _ (start .pre .0) (start .pre .1) (start .args .symbol) (at-put-byte .put-byte .ensures) (at-begin .begin .ensures)
 
 pub begin-tail-spec : {M : Type 1} → statement M
 begin-tail-spec =

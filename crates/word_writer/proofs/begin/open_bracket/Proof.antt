@@ -22,7 +22,10 @@ same-length-2 : tie.Need-same-length-2
 same-length-2 c = search needs
 
 returns : tie.Need-returns
-returns c = opened (c .before .before .before .before .before .before .before .args .stack .now) _ _ (c .before .before .before .before .before .before .before .args .due) (c .before .before .before .before .if1 .taken) (c .before .before .put-byte .ensures)
+returns c =
+    let at-if1 = c .before .before .before .before in
+    let start = at-if1 .before .before .before in
+    opened (start .args .stack .now) _ _ (start .args .due) (at-if1 .if1 .taken) (c .before .before .put-byte .ensures)
 
 returns-2 : tie.Need-returns-2
 returns-2 c = opened-not _ _ _ _ (c .if1 .left)

@@ -62,7 +62,10 @@ loop-less : tie.Need-loop-less Inv-loop μ-loop
 loop-less c = search needs
 
 loop-again : tie.Need-loop-again Inv-loop μ-loop
-loop-again c = closes-tail (c .before .before .before .before .before .before .before .before .before .loop .inv) (c .before .before .before .before .before .before .before .before .loop-test .taken) (c .before .before .before .before .if3 .taken) (c .before .before .put-byte .ensures)
+loop-again c =
+    let at-if3 = c .before .before .before .before in
+    let turn = at-if3 .before .before .before .before in
+    closes-tail (turn .before .loop .inv) (turn .loop-test .taken) (at-if3 .if3 .taken) (c .before .before .put-byte .ensures)
 
 put-byte-requires-2 : tie.Need-put-byte-requires-2 Inv-loop μ-loop
 put-byte-requires-2 c κs = search needs
@@ -74,7 +77,10 @@ loop-less-2 : tie.Need-loop-less-2 Inv-loop μ-loop
 loop-less-2 c = search needs
 
 loop-again-2 : tie.Need-loop-again-2 Inv-loop μ-loop
-loop-again-2 c = closes-arguments (c .before .before .before .before .before .before .before .before .before .before .loop .inv) (c .before .before .before .before .before .before .before .before .before .loop-test .taken) (c .before .before .before .before .if4 .taken) (c .before .before .put-byte2 .ensures)
+loop-again-2 c =
+    let at-if4 = c .before .before .before .before in
+    let turn = at-if4 .before .before .before .before .before in
+    closes-arguments (turn .before .loop .inv) (turn .loop-test .taken) (at-if4 .if4 .taken) (c .before .before .put-byte2 .ensures)
 
 sub-stack-2 : tie.Need-sub-stack-2 Inv-loop μ-loop
 sub-stack-2 c = search needs
@@ -98,7 +104,14 @@ same-length-6 : tie.Need-same-length-6 Inv-loop μ-loop
 same-length-6 c = length-wrote (c .before .before .put-byte3 .ensures) ∙ c .before .before .before .before .before .before .before .before .before .before .loop .inv .text-kept
 
 returns-3 : tie.Need-returns-3 Inv-loop μ-loop
-returns-3 c = stays-argument (c .before .before .before .before .before .before .before .before .before .before .loop .inv) (c .before .before .before .before .before .before .before .before .before .loop-test .taken) (omega (arith, c .before .before .before .before .if4 .left, c .before .before .before .before .before .if3 .left, c .before .before .before .before .before .before .if2 .left, c .before .before .before .before .before .before .before .if1 .left)) (c .before .before .put-byte3 .ensures)
+returns-3 c =
+    let at-if4 = c .before .before .before .before in
+    let at-if3 = at-if4 .before in
+    let at-if2 = at-if3 .before in
+    let at-if1 = at-if2 .before in
+    let turn = at-if1 .before .before in
+    stays-argument (turn .before .loop .inv) (turn .loop-test .taken)
+    (omega (arith, at-if4 .if4 .left, at-if3 .if3 .left, at-if2 .if2 .left, at-if1 .if1 .left)) (c .before .before .put-byte3 .ensures)
 
 same-length-7 : tie.Need-same-length-7 Inv-loop μ-loop
 same-length-7 c = c .before .loop .inv .stack-kept

@@ -29,13 +29,21 @@ returns : tie.Need-returns
 returns c = refused-unchecked _ _ _ _ _ (search needs) _ (sym (c .before .before .before .check-question .ensures) ∙ c .before .refusal .given .1)
 
 returns-2 : tie.Need-returns-2
-returns-2 c = refused-measured _ _ _ _ _ (search needs) (sym (c .before .before .before .before .before .before .check-question .ensures) ∙ c .before .before .before .before .enum-told .given .1) (c .before .before .before .measure .ensures) _ (c .before .refusal2 .given .1)
+returns-2 c =
+    refused-measured _ _ _ _ _ (search needs)
+    (sym (c .before .before .before .before .before .before .check-question .ensures) ∙ c .before .before .before .before .enum-told .given .1)
+    (c .before .before .before .measure .ensures) _ (c .before .refusal2 .given .1)
 
 same-length : tie.Need-same-length
 same-length c = search needs
 
 returns-3 : tie.Need-returns-3
-returns-3 c = written-measured _ _ _ _ _ (search needs) (sym (c .before .before .before .before .before .before .before .before .before .before .check-question .ensures) ∙ c .before .before .before .before .before .before .before .before .enum-told .given .1) (c .before .before .before .before .before .before .before .measure .ensures) _ (c .before .before .before .before .before .length .given .1) (c .before .before .write-lines .ensures)
+returns-3 c =
+    written-measured _ _ _ _ _ (search needs)
+    (sym (c .before .before .before .before .before .before .before .before .before .before .check-question .ensures)
+    ∙ c .before .before .before .before .before .before .before .before .enum-told .given .1)
+    (c .before .before .before .before .before .before .before .measure .ensures) _ (c .before .before .before .before .before .length .given .1)
+    (c .before .before .write-lines .ensures)
 
 pub write-question-spec : {M : Type 1} → statement M
 write-question-spec =
