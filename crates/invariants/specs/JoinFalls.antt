@@ -14,7 +14,7 @@ use Rattle.terms.specs.Flat.{size-positive}
 use Rattle.terms.specs.Formed.{Equation}
 use Rattle.terms.specs.Answers.{Named}
 use Rattle.search.specs.State.{State, Node, pend, renewed}
-use Rattle.search.specs.Children.{others, kept, bound-state, joined, join, children-by, children}
+use Rattle.search.specs.Children.{others, kept, bound-state, joined, without, join, children-by, children}
 use Rattle.search.specs.StepView.{stepped, Bound-to, bound-inside, bound-once, bound-to}
 use Rattle.search.specs.PileEntries.{entries-others, All-entries, All-others}
 use Rattle.invariants.specs.Tally.{tally-fewer, tally-refused}
@@ -59,15 +59,12 @@ joined-each x hs = All-of-flatMap _ (λ n h. h .1) (All-entries x hs)
 
 -- ---- the join
 
--- a state without the entries of n's unknown, the term that it is bound to, and the state then
-abbrev rest : State → Named → List Named → State
-rest st n ns = record { pending = []; pile = others (n .name) (n ∷ ns); bindings = st .bindings; next = st .next }
-
+-- the term that n's unknown is bound to, and the state then
 abbrev value : State → Named → List Named → Term
 value st n ns = over (joined (n .name) (n ∷ ns)) (unknown (st .next))
 
 abbrev after : State → Named → List Named → State
-after st n ns = bound-state (n .name) (value st n ns) (renewed (rest st n ns))
+after st n ns = bound-state (n .name) (value st n ns) (renewed (without (n .name) (n ∷ ns) st))
 
 module _ {arities : List ℕ} (st : State) (n : Named) (ns : List Named) (o : Orderly arities st) (is : st .pile ≡ n ∷ ns) where
   entries-usable : All (Usable-entry arities (st .next) (st .bindings)) (n ∷ ns)
@@ -86,7 +83,7 @@ module _ {arities : List ℕ} (st : State) (n : Named) (ns : List Named) (o : Or
   others-usable : All (λ m. (m .name ≡ n .name → ⊥) × Usable-entry arities (st .next) (st .bindings) m) (others (n .name) (n ∷ ns))
   others-usable = All-others (n .name) entries-usable
 
-  rest-orderly : Orderly arities (rest st n ns)
+  rest-orderly : Orderly arities (without (n .name) (n ∷ ns) st)
   rest-orderly = record { pending = all-none; pile = All-map (λ m h. h .1) others-usable; bindings = o .bindings; solved = o .solved }
 
   after-pending : (after st n ns) .pending ≡ []
@@ -122,13 +119,13 @@ module _ {arities : List ℕ} (st : State) (n : Named) (ns : List Named) (o : Or
 
   after-unbound : unbound (after st n ns) ≤ unbound st
   unfolding renewed unbound
-  after-unbound = omega (arith, bound-fewer (renewed (rest st n ns)) (n .name) (value st n ns) (usable-renewed name-usable), renewed-more (rest st n ns))
+  after-unbound = omega (arith, bound-fewer (renewed (without (n .name) (n ∷ ns) st)) (n .name) (value st n ns) (usable-renewed name-usable), renewed-more (without (n .name) (n ∷ ns) st))
 
   falls-joined : st .pending ≡ [] → All (Falls arities st) (join (n ∷ ns) st)
   unfolding join renewed bound-state
-  falls-joined nothing = both (go (bound-to (n .name) (value st n ns) (renewed (rest st n ns)))) all-none
+  falls-joined nothing = both (go (bound-to (n .name) (value st n ns) (renewed (without (n .name) (n ∷ ns) st)))) all-none
     where
-      go : {k : Node} → Bound-to (n .name) (value st n ns) (renewed (rest st n ns)) k → Falls arities st k
+      go : {k : Node} → Bound-to (n .name) (value st n ns) (renewed (without (n .name) (n ∷ ns) st)) k → Falls arities st k
       go (bound-inside e) = ends-dead
       go (bound-once e) =
           shorter (orderly-bound (n .name) e (orderly-renewed rest-orderly) (usable-renewed name-usable) value-usable) nothing after-pending after-unbound after-waiting after-pile

@@ -5,7 +5,7 @@ use mathlib.Core.List.{List, [], _∷_}
 use Rattle.terms.specs.Lists.{All, none as all-none, both, All-map, any}
 use Rattle.terms.specs.Term.{Term}
 use Rattle.terms.specs.Formed.{Formed, Equation, sides, Question}
-use Rattle.search.specs.State.{State, Node, dead, live}
+use Rattle.search.specs.State.{State, Node, dead, live, start}
 use Rattle.search.specs.Children.{children}
 use Rattle.search.specs.Run.{root}
 use Rattle.invariants.specs.Orderly.{named, Usable, Usable-sides, Orderly}
@@ -17,10 +17,6 @@ use Rattle.invariants.specs.SolvedForm.{nothing-bound}
 pub data Live (I : State → Type 0) : Node → Type 0 where
   is-dead : Live I dead
   is-live : {st : State} → I st → Live I (live st)
-
--- the state that a question starts from
-abbrev pub start : Question → State
-start q = record { pending = q .equations; pile = []; bindings = []; next = q .unknowns }
 
 -- every term of a question is formed; all that the theorems ask of one
 abbrev pub Formed-question : Question → Type 0

@@ -11,9 +11,9 @@ use Rattle.terms.specs.Answers.{listed}
 use Rattle.search.specs.declared.ends.End.the-variants.{Done, Names}
 use Rattle.search.specs.Run.{Loan, visits, root, ran}
 use Rattle.search.specs.Specimens.{a, x0, arities, asks, lending, ample, computing}
+use Rattle.search.specs.State.{start}
 use Rattle.search.specs.StateWords.{state-words}
 use Rattle.promises.specs.Wording.{NoLess, Begins, whole, Answers-in-form}
-use Rattle.invariants.specs.Tree.{start}
 use Rattle.promises.specs.Promises
 
 -- x0 = {a|x0}, which is good

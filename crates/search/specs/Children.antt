@@ -13,7 +13,7 @@ use Rattle.search.specs.declared.steps.Tails.{Tails}
 use Rattle.search.specs.declared.steps.Tails.the-variants.{Neither, Left, Right, Different, Same}
 use Rattle.search.specs.declared.steps.Step.{Step}
 use Rattle.search.specs.declared.steps.Step.the-variants.{Drop, Bind, Postpone, Decompose, Split, Dead}
-use Rattle.search.specs.State.{State, Node, dead, live, pend, piled, renewed}
+use Rattle.search.specs.State.{State, Node, dead, live, remade, noted, pend, piled, renewed}
 use Rattle.search.specs.Classify.{classify}
 
 -- ---- a binding of x to t: it replaces x in all pending equations
@@ -40,12 +40,11 @@ kept x t n = record { name = n .name; value = subst x t (n .value) }
 -- released entries go to the end of the pending list, in pile order; earlier bindings stay as written
 unfoldable pub bound-state : ℕ → Term → State → State
 bound-state x t s =
-    record {
-      pending = map (replace-in x t) (s .pending) ++ map (released x t) (entries x (s .pile));
-      pile = map (kept x t) (others x (s .pile));
-      bindings = s .bindings ++ (record { name = x; value = t } ∷ []);
-      next = s .next;
-    }
+    noted x t
+    (remade
+    (map (replace-in x t) (s .pending) ++ map (released x t) (entries x (s .pile)))
+    (map (kept x t) (others x (s .pile)))
+    (s .next) s)
 
 -- an unknown bound to a term in which it occurs is a dead end
 unfoldable pub bound : ℕ → Term → State → Node
@@ -134,12 +133,16 @@ take Dead t u st = dead ∷ []
 unfoldable pub joined : ℕ → List Named → List Term
 joined x ns = flatMap (λ n. members (n .value)) (entries x ns)
 
+-- what a join of x leaves of a state with these entries
+abbrev pub without : ℕ → List Named → State → State
+without x ns st = remade [] (others x ns) (st .next) st
+
 -- the left unknown X of the first entry is bound to {members|N}, N new; with no pile the state is an answer and has no child
 unfoldable pub join : List Named → State → List Node
 join [] st = []
 join (n ∷ ns) st =
     bound (n .name) (over (joined (n .name) (n ∷ ns)) (unknown (st .next)))
-    (renewed (record { pending = []; pile = others (n .name) (n ∷ ns); bindings = st .bindings; next = st .next })) ∷ []
+    (renewed (without (n .name) (n ∷ ns) st)) ∷ []
 
 unfoldable pub children-by : List Equation → State → List Node
 children-by [] st = join (st .pile) st

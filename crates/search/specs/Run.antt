@@ -10,7 +10,7 @@ use Rattle.terms.specs.Formed.{Equation, Question}
 use Rattle.terms.specs.Answers.{Named, answer-words, listed}
 use Rattle.search.specs.declared.ends.End.{End}
 use Rattle.search.specs.declared.ends.End.the-variants.{Done, Steps, Depth, Names, Size, Space}
-use Rattle.search.specs.State.{State, Node, dead, live, state-size}
+use Rattle.search.specs.State.{State, Node, dead, live, start, state-size}
 use Rattle.search.specs.Children.{children}
 
 -- ---- the nodes, depth first, children in order
@@ -46,7 +46,7 @@ visits (suc n) d dead = dead-visit d ∷ []
 visits (suc n) d (live st) = visit d st ∷ flatMap (visits n (suc d)) (children st)
 
 unfoldable pub root : Question → Node
-root q = live (record { pending = q .equations; pile = []; bindings = []; next = q .unknowns })
+root q = live (start q)
 
 -- ---- the run
 

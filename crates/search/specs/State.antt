@@ -3,7 +3,7 @@
 use Prim.Native.Nat.{ℕ, _+_, suc}
 use mathlib.Core.List.{List, [], _∷_, _++_}
 use Rattle.terms.specs.Term.{Term, size}
-use Rattle.terms.specs.Formed.{Equation}
+use Rattle.terms.specs.Formed.{Equation, Question}
 use Rattle.terms.specs.Answers.{Named}
 
 pub record State : Type 0 where
@@ -18,19 +18,33 @@ pub data Node : Type 0 where
   dead : Node
   live : State → Node
 
+-- ---- how states are made; nothing else names all of a state's parts
+
+-- the state that the search of a question starts from
+abbrev pub start : Question → State
+start q = record { pending = q .equations; pile = []; bindings = []; next = q .unknowns }
+
+-- the state with these equations pending, this pile and this next unknown; its bindings stay
+abbrev pub remade : List Equation → List Named → ℕ → State → State
+remade es ns next s = record { pending = es; pile = ns; bindings = s .bindings; next = next }
+
+-- the state with X = t after its bindings
+abbrev pub noted : ℕ → Term → State → State
+noted x t s = record { pending = s .pending; pile = s .pile; bindings = s .bindings ++ (record { name = x; value = t } ∷ []); next = s .next }
+
 -- the state with these equations pending
 unfoldable pub pend : List Equation → State → State
-pend es s = record { pending = es; pile = s .pile; bindings = s .bindings; next = s .next }
+pend es s = remade es (s .pile) (s .next) s
 
 -- the state with X = t at the end of the pile
 unfoldable pub piled : ℕ → Term → State → State
-piled x t s = record { pending = s .pending; pile = s .pile ++ (record { name = x; value = t } ∷ []); bindings = s .bindings; next = s .next }
+piled x t s = remade (s .pending) (s .pile ++ (record { name = x; value = t } ∷ [])) (s .next) s
 
 -- the state with one unknown more in use
 unfoldable pub renewed : State → State
-renewed s = record { pending = s .pending; pile = s .pile; bindings = s .bindings; next = suc (s .next) }
+renewed s = remade (s .pending) (s .pile) (suc (s .next)) s
 
--- the number of symbols on both sides, each binding's unknown counted as one
+-- ---- the number of symbols on both sides, each binding's unknown counted as one
 unfoldable pub size-equations : List Equation → ℕ
 size-equations [] = 0
 size-equations (e ∷ es) = size (e .left) + size (e .right) + size-equations es

@@ -14,10 +14,10 @@ use Rattle.terms.specs.Reading.{question-of}
 use Rattle.terms.specs.Answers.{binding-words, pile-words}
 use Rattle.search.specs.declared.ends.End.the-variants.{Steps, Size}
 use Rattle.search.specs.declared.limits.Limits.{Limits}
-use Rattle.search.specs.State.{size-equations, size-named, state-size}
+use Rattle.search.specs.State.{start, size-equations, size-named, state-size}
 use Rattle.search.specs.Run.{Visit, visit, root, ran}
 use Rattle.search.specs.StateWords.{pending-words, state-words, length-pending}
-use Rattle.invariants.specs.Tree.{start, start-orderly}
+use Rattle.invariants.specs.Tree.{start-orderly}
 use Rattle.search_laws.specs.Going.{left, resumed-none, left-none, to-come, to-come-root}
 use Rattle.rows.specs.Header.{header-of}
 use Rattle.rows.specs.Row.{Fresh, header-for, header-words}
@@ -25,7 +25,7 @@ use Rattle.search_loop.specs.ChildrenPassed.{spent-stops, large-stops}
 use Rattle.results.specs.Loans.{loan, ending}
 use Rattle.results.specs.Result.{gives}
 use Rattle.search_loop.specs.Running.{given, remains, Ends}
-use Rattle.solver.specs.Start.{rooted, nothing, Asking, whole-run, Rooted}
+use Rattle.solver.specs.Start.{root-header, rooted, nothing, Asking, whole-run, Rooted}
 use Rattle.solver.proofs.RootRun.{row-fits, ends-as}
 use Rattle.search_loop.proofs.Turning.{stops-here, suits-kept}
 
@@ -42,9 +42,9 @@ module _ {unknowns : ℕ} {arities ws : List ℕ} {limits : Limits} {l : List �
   unfolding state-size size-named
   root-size = omega (arith, words-size)
 
-  root-header : header-for (start q) ≡ record { pending = length ws; pile = 0; body = length ws; bindings = 0; next = unknowns }
+  header-is : header-for (start q) ≡ root-header ws unknowns
   unfolding header-for size-named question-of
-  root-header = rw (root-size, words-size)
+  header-is = rw (root-size, words-size)
 
   root-body : state-words edition-one (start q) ≡ ws
   unfolding state-words pending-words pile-words binding-words
@@ -74,7 +74,7 @@ module _ {unknowns : ℕ} {arities ws : List ℕ} {limits : Limits} {l : List �
 
     top : seg written 0 HEADER ≡ header-of (header-for (start q))
     unfolding rooted header-of
-    top = rw root-header (seg-put-same (header-of (record { pending = length ws; pile = 0; body = length ws; bindings = 0; next = unknowns })) first 0 (rw (length-put l HEADER ws) (omega (arith, room-for))))
+    top = rw header-is (seg-put-same (header-of (root-header ws unknowns)) first 0 (rw (length-put l HEADER ws) (omega (arith, room-for))))
 
     fresh : Fresh edition-one written 0 (start q)
     unfolding header-of header-words rooted
@@ -85,7 +85,7 @@ module _ {unknowns : ℕ} {arities ws : List ℕ} {limits : Limits} {l : List �
           holds = record {
             within = omega (arith, root-room, room-for);
             header = sym (take-seg written 0 HEADER 5 (omega arith)) ∙ ap (take 5) top;
-            body = rw (z, s, root-body) (seg-put (header-of (record { pending = length ws; pile = 0; body = length ws; bindings = 0; next = unknowns })) first (later (omega arith)) ∙ seg-put-same ws l HEADER (omega (arith, room-for)));
+            body = rw (z, s, root-body) (seg-put (header-of (root-header ws unknowns)) first (later (omega arith)) ∙ seg-put-same ws l HEADER (omega (arith, room-for)));
           };
           unopened = sym (drop-seg written 0 HEADER 5 (omega arith)) ∙ ap (drop 5) top;
         }

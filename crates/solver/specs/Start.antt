@@ -16,14 +16,19 @@ use Rattle.search.specs.RunLimits.{most-steps, most-depth, most-size}
 use Rattle.invariants.specs.Orderly.{Orderly}
 use Rattle.search_laws.specs.Going.{to-come}
 use Rattle.rows.specs.Row.{Fresh}
+use Rattle.rows.specs.declared.header.Header.{Header}
 use Rattle.rows.specs.Header.{header-of}
 use Rattle.results.specs.declared.ran.Record.{Record}
 use Rattle.results.specs.Loans.{loan, ending}
 use Rattle.search_loop.specs.Running.{Suits, Given, given, remains}
 
+-- the header of the root's row
+abbrev pub root-header : List ℕ → ℕ → Header
+root-header ws unknowns = record { pending = length ws; pile = 0; body = length ws; bindings = 0; next = unknowns }
+
 -- the room with the root's row: the question's words are pending
 unfoldable pub rooted : List ℕ → List ℕ → ℕ → List ℕ
-rooted l ws unknowns = put (put l HEADER ws) 0 (header-of (record { pending = length ws; pile = 0; body = length ws; bindings = 0; next = unknowns }))
+rooted l ws unknowns = put (put l HEADER ws) 0 (header-of (root-header ws unknowns))
 
 -- nothing is counted yet
 abbrev pub nothing : Record

@@ -16,7 +16,7 @@ use Rattle.laws.specs.Apart.{functor-parts}
 use Rattle.laws.specs.Members.{absorbed}
 use Rattle.laws.specs.ValuesPut.{value-over}
 use Rattle.search.specs.declared.steps.Step.{Step}
-use Rattle.search.specs.State.{State, Node, pend, renewed}
+use Rattle.search.specs.State.{State, Node, remade, pend, renewed}
 use Rattle.search.specs.Classify.{classify}
 use Rattle.search.specs.Children.{pairwise, take, joined, join, children-by, children}
 use Rattle.search.specs.StepView.{Sided, as-written, turned-round, Stepped, drops-unknown, drops-empty, binds, postpones, decomposes, splits, dead-buried, dead-functors, dead-clash, stepped, take-bind, take-postpone}
@@ -103,7 +103,7 @@ module _ (σ : Values) where
     unfolding children-by pend
     complete-by [] st kept m = go (st .pile) (kept .pile) (m .pile)
       where
-        go : (ns : List Named) → All (Entry arities (st .next)) ns → All (HoldsNamed σ) ns → Onward table σ (record { pending = []; pile = ns; bindings = st .bindings; next = st .next }) (join ns st)
+        go : (ns : List Named) → All (Entry arities (st .next)) ns → All (HoldsNamed σ) ns → Onward table σ (remade [] ns (st .next) st) (join ns st)
         go [] f h = answered refl refl
         go (e ∷ es) f h = onward (complete-join e es st f (kept .bindings) h (m .bindings))
     complete-by (e ∷ es) st kept m = go (kept .pending) (m .pending)

@@ -19,7 +19,7 @@ use Rattle.laws.specs.Members.{kernel-over}
 use Rattle.search.specs.declared.steps.Tails.{Tails}
 use Rattle.search.specs.declared.steps.Step.{Step}
 use Rattle.search.specs.State.{State, Node, dead, live, pend, piled, renewed}
-use Rattle.search.specs.Children.{replace-in, others, released, kept, bound-state, bound, then-bound, Pick, new-equations, pile-up, settle, pairwise, take, joined, join, children-by, children}
+use Rattle.search.specs.Children.{replace-in, released, kept, bound-state, bound, then-bound, Pick, new-equations, pile-up, settle, pairwise, take, joined, without, join, children-by, children}
 use Rattle.search.specs.StepView.{Tailed, neither, left, right, different, same, Sided, Stepped, drops-unknown, drops-empty, binds, postpones, decomposes, splits, dead-buried, dead-functors, dead-clash, stepped, sided-name, sided-term, take-bind, take-postpone}
 use Rattle.search.specs.PileEntries.{All-entries, All-others}
 use Rattle.answers.specs.Steps.Picks.{Chosen, no-choice, choice, Picks, picks-one, picks-tail, split-all, joining-all}
@@ -182,7 +182,7 @@ module _ {arities : List ℕ} where
   kept-join {n = n} (e ∷ es) st (both f fs) k =
       both (kept-weaken {m = suc (st .next)} (omega arith) (kept-bound (above (f .formed .name)) (over-new joined-formed) (kept-renewed rest))) none
     where
-      rest : Kept arities n (record { pending = []; pile = others (e .name) (e ∷ es); bindings = st .bindings; next = st .next })
+      rest : Kept arities n (without (e .name) (e ∷ es) st)
       rest = record { in-use = k .in-use; pending = none; pile = All-map (λ x p. p .1) (All-others (e .name) (both f fs)); bindings = k .bindings }
 
       joined-formed : All (Formed arities (st .next)) (joined (e .name) (e ∷ es))

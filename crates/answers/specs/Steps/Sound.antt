@@ -20,7 +20,7 @@ use Rattle.laws.specs.Tails.{sound-different, sound-same}
 use Rattle.search.specs.declared.steps.Tails.{Tails}
 use Rattle.search.specs.declared.steps.Step.{Step}
 use Rattle.search.specs.State.{State, Node, pend, renewed}
-use Rattle.search.specs.Children.{others, bound, Pick, new-equations, joining, settle, split, pairwise, take, joined, join, children-by, children}
+use Rattle.search.specs.Children.{bound, Pick, new-equations, joining, settle, split, pairwise, take, joined, without, join, children-by, children}
 use Rattle.search.specs.StepView.{Tailed, neither, left, right, different, same, Sided, as-written, turned-round, Stepped, drops-unknown, drops-empty, binds, postpones, decomposes, splits, dead-buried, dead-functors, dead-clash, stepped, take-bind, take-postpone}
 use Rattle.terms.specs.Lists.{All-unmap}
 use Rattle.answers.specs.Steps.Meaning.{HoldsNamed, MeetsState, MeetsNode, meets-live, of-live, of-dead, written, over-values}
@@ -138,7 +138,7 @@ module _ (σ : Values) where
       N : Term
       N = unknown (st .next)
 
-      go : MeetsNode σ (bound x (over ms N) (renewed (record { pending = []; pile = others x (e ∷ es); bindings = st .bindings; next = st .next })))
+      go : MeetsNode σ (bound x (over ms N) (renewed (without x (e ∷ es) st)))
           → All (HoldsNamed σ) (e ∷ es) × All (HoldsNamed σ) (st .bindings)
       go m =
           let p = sound-bound σ x (over ms N) _ m in

@@ -7,7 +7,7 @@ use lib.ListN.{length}
 use native.Mathlib.Omega.{arith}
 use Rattle.terms.specs.Lists.{All, none as all-none, both, All-map}
 use Rattle.terms.specs.Formed.{Question}
-use Rattle.search.specs.State.{State, Node, dead, live}
+use Rattle.search.specs.State.{State, Node, dead, live, start}
 use Rattle.search.specs.Children.{children}
 use Rattle.search.specs.Run.{visit, visits, root}
 use Rattle.promises.specs.Searches.Measures.{Below, by-first, by-second, by-third, by-measures}
@@ -15,7 +15,7 @@ use Rattle.invariants.specs.Orderly.{Orderly}
 use Rattle.invariants.specs.Weight.{weights}
 use Rattle.invariants.specs.Falling.{unbound, Falls, ends-dead, fewer-unbound, lighter, shorter}
 use Rattle.invariants.specs.JoinFalls.{children-fall}
-use Rattle.invariants.specs.Tree.{Formed-question, start, start-orderly}
+use Rattle.invariants.specs.Tree.{Formed-question, start-orderly}
 
 -- the tree from a node on has at most n levels
 abbrev pub Levels : ℕ → Node → Type 0

@@ -13,7 +13,7 @@ use Rattle.terms.specs.Formed.{Question}
 use Rattle.terms.specs.Answers.{Named}
 use Rattle.search.specs.declared.ends.End.{End}
 use Rattle.search.specs.declared.ends.End.the-variants.{Names}
-use Rattle.search.specs.State.{State, Node, live}
+use Rattle.search.specs.State.{State, Node, live, start}
 use Rattle.search.specs.Run.{Loan, Visit, Verdict, stops, overflows, goes-on, visit, dead-visit, visits, root, found, verdict, spend, after, scan, ran}
 use Rattle.invariants.specs.Tally.{tally-no-more, tally-most}
 use Rattle.invariants.specs.Orderly.{named, Orderly, usable-unbound}
@@ -22,7 +22,7 @@ use Rattle.invariants.specs.Falling.{unbound, waiting, Falls, ends-dead, fewer-
 use Rattle.invariants.specs.JoinFalls.{children-fall}
 use Rattle.search.specs.Verdicts.{Judged, steps-spent, too-deep, too-many-names, too-large, judged}
 use Rattle.promises.specs.Searches.Visiting.{visits-each}
-use Rattle.invariants.specs.Tree.{Formed-question, start, start-orderly, Live, is-dead, is-live}
+use Rattle.invariants.specs.Tree.{Formed-question, start-orderly, Live, is-dead, is-live}
 
 -- what a state may still make of names, within `most`
 data Budget (most : ℕ) (st : State) : Type 0 where
