@@ -14,7 +14,7 @@ use Rattle.terms.specs.Lists.{All}
 use Rattle.terms.specs.Term.{Term, words}
 use Rattle.terms.specs.Formed.{Equation, Formed, row, sides}
 use Rattle.terms.specs.Answers.{Named, binding-words, pile-words}
-use Rattle.search.specs.State.{State, live, size-equations, size-named, state-size}
+use Rattle.search.specs.State.{State, live, remade, noted, size-equations, size-named, state-size}
 use Rattle.search.specs.Children.{replace-in, entries, others, released, kept, bound-state}
 use Rattle.search.specs.StateWords.{pending-words, state-words, length-pending, length-pile, length-bindings}
 use Rattle.rows.specs.declared.parts.Rest.{Rest}
@@ -30,7 +30,7 @@ use Rattle.rows.specs.Row.{Rested, Makes, header-for, finished-makes}
 
 -- the state with these equations before its own, and this next unknown
 unfoldable pub ahead : List Equation → ℕ → State → State
-ahead ds next st = record { pending = ds ++ st .pending; pile = st .pile; bindings = st .bindings; next = next }
+ahead ds next st = remade (ds ++ st .pending) (st .pile) next st
 
 -- the m words at a place are those of t
 pub record Stands (l : List ℕ) (by m : ℕ) (t : Term) : Type 0 where
@@ -125,12 +125,7 @@ module _ {arities : List ℕ} {k : ℕ} (worded : Worded edition-one arities k) 
 
   module _ {to lent next : ℕ} (P : FinishParts r₀ rest by m to 0 lent (FIRST-UNKNOWN + x) next) where
     abbrev heir : State
-    heir = record {
-      pending = [];
-      pile = map (kept x t) (others x (st .pile));
-      bindings = st .bindings ++ (record { name = x; value = t } ∷ []);
-      next = next;
-    }
+    heir = noted x t (remade [] (map (kept x t) (others x (st .pile))) next st)
 
     heir-pile : pile-piece edition-one arities r₀ rest (FIRST-UNKNOWN + x) by m ≡ pile-words edition-one (heir .pile)
     unfolding edition-one
@@ -176,7 +171,7 @@ module _ {arities : List ℕ} {k : ℕ} (worded : Worded edition-one arities k) 
 
 -- the state with these equations before its own, these entries after its own, and this next unknown
 unfoldable pub extended : List Equation → List Named → ℕ → State → State
-extended ds ms next st = record { pending = ds ++ st .pending; pile = st .pile ++ ms; bindings = st .bindings; next = next }
+extended ds ms next st = remade (ds ++ st .pending) (st .pile ++ ms) next st
 
 -- the m words at a place are those of entries
 pub record Piled (l : List ℕ) (by m : ℕ) (ns : List Named) : Type 0 where

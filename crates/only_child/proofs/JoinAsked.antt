@@ -7,7 +7,7 @@ use Rattle.room.specs.Layout.{stride, aside-row}
 use Rattle.terms.specs.Answers.{Named}
 use Rattle.terms.specs.Term.{unknown, over}
 use Rattle.search.specs.State.{State, Node, renewed, size-named}
-use Rattle.search.specs.Children.{children, children-by, bound, join, joined, others}
+use Rattle.search.specs.Children.{children, children-by, bound, join, joined, without}
 use Rattle.rows.specs.declared.parts.Made.{Made}
 use Rattle.rows.specs.declared.parts.Rest.{Rest}
 use Rattle.rows.specs.declared.header.Header.{Header}
@@ -40,7 +40,7 @@ no-joined st q p = rw (q, p)
 -- the pile's first unknown bound to its members
 abbrev pub heir : State → ℕ → Node
 heir st x =
-    bound x (over (joined x (st .pile)) (unknown (st .next))) (renewed (record { pending = []; pile = others x (st .pile); bindings = st .bindings; next = st .next }))
+    bound x (over (joined x (st .pile)) (unknown (st .next))) (renewed (without x (st .pile) st))
 
 pub one-joined : (st : State) {n : Named} {ns : List Named} → st .pending ≡ [] → st .pile ≡ n ∷ ns → children st ≡ heir st (n .name) ∷ []
 unfolding children children-by join

@@ -17,7 +17,7 @@ use Rattle.terms.specs.Term.{Term, unknown, words, size, occurs, over}
 use Rattle.terms.specs.Answers.{Named, pile-words}
 use Rattle.terms.specs.Substitution.{occurs-over}
 use Rattle.search.specs.State.{State, Node, live, dead, pend, renewed, size-equations, size-named, state-size}
-use Rattle.search.specs.Children.{others, bound-state, bound, joined}
+use Rattle.search.specs.Children.{bound-state, bound, joined, without}
 use Rattle.search.specs.PileEntries.{entries-others, others-others}
 use Rattle.search.specs.StateWords.{length-pile}
 use Rattle.rows.specs.declared.parts.Rest.{Rest}
@@ -103,7 +103,7 @@ module _ {arities r₀ : List ℕ} {from to scratch lent : ℕ} {st : State} (H 
   occurs-is = occurs-over x (st .next) (λ e. omega (arith, small-name)) ms
 
   abbrev before : State
-  before = renewed (record { pending = []; pile = others x (st .pile); bindings = st .bindings; next = st .next })
+  before = renewed (without x (st .pile) st)
 
   pile-fits : rest .pile ≤ lent
   unfolding rest-after header-for state-size
