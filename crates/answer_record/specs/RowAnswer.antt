@@ -13,11 +13,11 @@ use Rattle.terms.specs.Bounds.{edition-one}
 use Rattle.terms.specs.Formed.{Equation, sides}
 use Rattle.terms.specs.Formed.{row as side-words}
 use Rattle.terms.specs.Flat.{size-positive}
-use Rattle.terms.specs.Answers.{Named, answer-words, pile-words}
+use Rattle.terms.specs.Answers.{answer-words}
 use Rattle.terms.specs.Lists.{cases}
-use Rattle.search.specs.State.{State, size-equations, size-named, state-size}
+use Rattle.search.specs.State.{State, Entry, size-equations, size-entries, state-size}
 use Rattle.search.specs.Run.{answer-by, found}
-use Rattle.search.specs.StateWords.{pending-words, state-words}
+use Rattle.search.specs.StateWords.{pending-words, pile-words, state-words}
 use Rattle.rows.specs.declared.header.Header.{Header}
 use Rattle.rows.specs.First.{header-in}
 use Rattle.rows.specs.Row.{Holds, header-for, header-words}
@@ -75,8 +75,8 @@ module _ {l : List ℕ} {to : ℕ} {st : State} (H : Holds edition-one l to st) 
   unfolding listed-by answer-words state-words pending-words pile-words side-words sides
   listing p q = rw (count-is, body-words-are, p, q)
 
-  answer-by-parts : (es : List Equation) (ns : List Named) → st .pending ≡ es → st .pile ≡ ns → answer-in row ≡ found edition-one (answer-by es ns (st .bindings))
-  unfolding found answer-by header-for size-equations size-named
+  answer-by-parts : (es : List Equation) (ns : List Entry) → st .pending ≡ es → st .pile ≡ ns → answer-in row ≡ found edition-one (answer-by es ns (st .bindings))
+  unfolding found answer-by header-for size-equations size-entries
   answer-by-parts (e ∷ es) ns p q = pending-none row header-is (rw p (omega (arith, size-positive (e .left))))
   answer-by-parts [] (m ∷ ns) p q = pile-none row header-is (rw q (omega arith))
   answer-by-parts [] [] p q = one-answer row header-is (rw p (omega arith)) (rw q (omega arith)) ∙ ap (λ (ws : List ℕ). ws ∷ []) (listing p q)

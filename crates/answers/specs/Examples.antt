@@ -15,7 +15,7 @@ use Rattle.terms.specs.Term.{Term, unknown, with, functor, words, members, over
 use Rattle.terms.specs.Term as term
 use Rattle.terms.specs.Formed.{Formed, formed-unknown, formed-empty, formed-with, formed-functor, formed-none, formed-more, Ground, Question, Good, sides, row}
 use Rattle.terms.specs.Substitution.{formed-wider}
-use Rattle.terms.specs.Answers.{Named, answer-words}
+use Rattle.terms.specs.Answers.{Binding, answer-words}
 use Rattle.laws.specs.Laws.{_≈_, ≈refl, ≈trans, In}
 use Rattle.laws.specs.Equal.{computing-equal}
 use Rattle.laws.specs.Agree.{agree}
@@ -69,7 +69,7 @@ good left right h =
 
 -- ---- one answer, x0 = t, where t may mention x1
 
-abbrev first-is : Term → List Named
+abbrev first-is : Term → List Binding
 first-is t = record { name = 0; value = t } ∷ []
 
 record OneAnswer (l r t : Term) : Type 0 where

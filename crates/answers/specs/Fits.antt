@@ -7,14 +7,14 @@ use mathlib.Core.List.{List}
 use Rattle.terms.specs.Bounds.{Bounds}
 use Rattle.terms.specs.Lists.{All}
 use Rattle.terms.specs.Formed.{Question}
-use Rattle.terms.specs.Answers.{Named, answer-words}
+use Rattle.terms.specs.Answers.{Binding, answer-words}
 use Rattle.terms.specs.Listing.{Bound}
 use Rattle.laws.specs.Laws.{_≈_}
 use Rattle.laws.specs.Values.{Values, value, GroundValues}
 
 -- the bindings that an answer's words state, with unknowns that a path may have and the question's functors
 pub record States (b : Bounds) (q : Question) (answer : List ℕ) : Type 0 where
-  pub bindings : List Named
+  pub bindings : List Binding
   pub formed : All (Bound (q .arities) (b .path-unknowns)) bindings
   pub words : answer ≡ answer-words b bindings
 

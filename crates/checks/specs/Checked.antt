@@ -8,7 +8,7 @@ use native.Mathlib.Omega.{arith}
 use lib.Dec.{eqb, ltb}
 use lib.ListN.{length, drop, length-drop}
 use borrow.Author.Tests.{lt-ltb, ltb-true, eqb-true}
-use Rattle.terms.specs.Answers.{Named, binding-words, answer-words, listed}
+use Rattle.terms.specs.Answers.{Binding, binding-words, answer-words, listed}
 use Rattle.terms.specs.Bounds.{Bounds, Proper}
 use Rattle.checks.specs.Check.{checked, follow, follows, after, refused}
 use Rattle.terms.specs.Kind.{kind, takes, kind-unknown, kind-functor, takes-empty, takes-member, takes-unknown, takes-functor, Worded}
@@ -156,7 +156,7 @@ module _ {b : Bounds} {arities : List ℕ} {n : ℕ} (worded : Worded b arities 
   fine-terms (both {x = t} {xs = ts} f fs) ws a k rest p =
       rw (append-assoc (words b t) (row b ts) ws) (checked-term f (row b ts ++ ws) p a k (length ts) ∙ fine-terms fs ws a k rest (p + size t))
 
-  pub fine-bindings : {xs : List Named} → All (Bound arities n) xs → (ws : List ℕ) (a : ℕ) → ((p : ℕ) → checked b arities n ws p a 0 0 ≡ Fine)
+  pub fine-bindings : {xs : List Binding} → All (Bound arities n) xs → (ws : List ℕ) (a : ℕ) → ((p : ℕ) → checked b arities n ws p a 0 0 ≡ Fine)
       → (p : ℕ) → checked b arities n (binding-words b xs ++ ws) p a (length xs) 0 ≡ Fine
   unfolding binding-words checked
   fine-bindings none ws a rest p = rest p
@@ -164,7 +164,7 @@ module _ {b : Bounds} {arities : List ℕ} {n : ℕ} (worded : Worded b arities 
       rw (lt-ltb (x .name) n (f .name), append-assoc (words b (x .value)) (binding-words b xs) ws)
       (checked-term (f .value) (binding-words b xs ++ ws) (p + 1) a (length xs) 0 ∙ fine-bindings fs ws a rest (p + 1 + size (x .value)))
 
-  pub fine-list : {l : List (List Named)} → All (All (Bound arities n)) l → (p : ℕ) → checked b arities n (list-words b l) p (length l) 0 0 ≡ Fine
+  pub fine-list : {l : List (List Binding)} → All (All (Bound arities n)) l → (p : ℕ) → checked b arities n (list-words b l) p (length l) 0 0 ≡ Fine
   unfolding list-words listed answer-words checked
   fine-list none p = refl
   fine-list (both {x = x} {xs = l} f fs) p = fine-bindings f (list-words b l) (length l) (fine-list fs) (p + 1)

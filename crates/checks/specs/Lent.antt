@@ -8,7 +8,7 @@ use native.Mathlib.Omega.{arith}
 use lib.Dec.{ltb}
 use lib.ListN.{length}
 use borrow.Author.Tests.{le-ltb, ltb-false}
-use Rattle.terms.specs.Answers.{Named, binding-words, answer-words, listed}
+use Rattle.terms.specs.Answers.{Binding, binding-words, answer-words, listed}
 use Rattle.terms.specs.Bounds.{Bounds, Proper}
 use Rattle.checks.specs.Check.{checked, above, arities-above, counts-above, check-terms, check-question, check-row, check-answers}
 use Rattle.checks.specs.Checked.{held, never-fine, fine-terms, fine-list}
@@ -72,7 +72,7 @@ pub record Row (b : Bounds) (arities : List ℕ) (n terms : ℕ) (ws : List ℕ)
   pub worded : row b ts ≡ ws
   pub symbols : length ws ≤ b .symbols
 
-alone : (b : Bounds) (ts : List Term) (xs : List Named) (l : List (List Named)) {ws : List ℕ} → length xs ≡ 0 → length l ≡ 0
+alone : (b : Bounds) (ts : List Term) (xs : List Binding) (l : List (List Binding)) {ws : List ℕ} → length xs ≡ 0 → length l ≡ 0
     → row b ts ++ (binding-words b xs ++ list-words b l) ≡ ws → row b ts ≡ ws
 unfolding binding-words list-words listed
 alone b ts [] [] p q e = sym (append-nil (row b ts)) ∙ e
@@ -185,13 +185,13 @@ module _ {b : Bounds} (proper : Proper b) where
 -- ---- a list of answers
 
 -- a list of so many answers in these words
-pub record Answered (b : Bounds) (arities : List ℕ) (answers : ℕ) (ws : List ℕ) (l : List (List Named)) : Type 0 where
+pub record Answered (b : Bounds) (arities : List ℕ) (answers : ℕ) (ws : List ℕ) (l : List (List Binding)) : Type 0 where
   pub count : length l ≡ answers
   pub formed : All (All (Bound arities (b .path-unknowns))) l
   pub worded : list-words b l ≡ ws
 
 module _ {b : Bounds} {arities : List ℕ} {n : ℕ} (worded : Worded b arities n) where
-  pub list-determines : {l m : List (List Named)} → All (All (Bound arities n)) l → All (All (Bound arities n)) m → length l ≡ length m
+  pub list-determines : {l m : List (List Binding)} → All (All (Bound arities n)) l → All (All (Bound arities n)) m → length l ≡ length m
       → list-words b l ≡ list-words b m → l ≡ m
   unfolding list-words listed answer-words
   list-determines none none h e = refl
@@ -204,7 +204,7 @@ module _ {b : Bounds} {arities : List ℕ} {n : ℕ} (worded : Worded b arities 
       cc
 
 -- the same, where only a list is held
-list-alone : (b : Bounds) (ts : List Term) (xs : List Named) (l : List (List Named)) {ws : List ℕ} → length ts ≡ 0 → length xs ≡ 0
+list-alone : (b : Bounds) (ts : List Term) (xs : List Binding) (l : List (List Binding)) {ws : List ℕ} → length ts ≡ 0 → length xs ≡ 0
     → row b ts ++ (binding-words b xs ++ list-words b l) ≡ ws → list-words b l ≡ ws
 unfolding row binding-words
 list-alone b [] [] l p q e = e
@@ -223,7 +223,7 @@ module _ {b : Bounds} (proper : Proper b) where
         record { count = h .answers; formed = h .formed-answers; worded = list-alone b (r .terms) (r .bindings) (r .answers) (h .terms) (h .bindings) (h .worded) },
       )
 
-  module _ {arities : List ℕ} {answers : ℕ} {ws : List ℕ} {l : List (List Named)} (t : Table b arities) (r : Answered b arities answers ws l) where
+  module _ {arities : List ℕ} {answers : ℕ} {ws : List ℕ} {l : List (List Binding)} (t : Table b arities) (r : Answered b arities answers ws l) where
     pub answered-check-answers : check-answers b arities answers ws ≡ Fine
     unfolding check-answers
     answered-check-answers = not-above 0 (within-table t) (rw (← (r .count), ← (r .worded)) (fine-list (table-worded proper t (omega arith)) (r .formed) 0))

@@ -14,7 +14,7 @@ use Rattle.terms.specs.Bounds.{edition-one, NESTING, BYTES}
 use Rattle.terms.specs.Lists.{All, Any}
 use Rattle.terms.specs.Term.{Term, Terms, with, functor, more, members, kernel, list, nesting}
 use Rattle.terms.specs.Formed.{Question, Good}
-use Rattle.terms.specs.Answers.{Named, answer-words, listed}
+use Rattle.terms.specs.Answers.{Binding, answer-words, listed}
 use Rattle.checks.specs.Lent.{Asked}
 use Rattle.terms.specs.Listing.{answers-of}
 use Rattle.terms.specs.Refusal.{number}
@@ -169,7 +169,7 @@ functor-nests = nests.functor-nests
 pub question-nests : (g : Question) → (too-deep-in edition-one g ≡ all-within) ↔ Nests-within NESTING g
 question-nests = nests.question-nests
 
-pub answers-nest : (l : List (List Named)) → (too-deep-in-list edition-one l ≡ all-within) ↔ All (All (λ b. nesting (b .value) ≤ NESTING)) l
+pub answers-nest : (l : List (List Binding)) → (too-deep-in-list edition-one l ≡ all-within) ↔ All (All (λ b. nesting (b .value) ≤ NESTING)) l
 answers-nest = nests.answers-nest
 
 -- ---- 7. ground terms

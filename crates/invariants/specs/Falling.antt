@@ -3,21 +3,22 @@
 use Prim.Native.Nat.{ℕ, _+_, suc, _≤_, _<_}
 use mathlib.Core.Path.{_≡_, ap, _∙_, sym}
 use mathlib.Core.List.{List, [], _∷_, _++_}
-use mathlib.Core.Bool.{true, false, false≢true, not}
+use mathlib.Core.Bool.{Bool, true, false, false≢true, not}
+use lib.Dec.{eqb}
 use lib.ListN.{length, length-append}
 use lib.Seq.{append-snoc}
 use borrow.Author.Tests.{not-true}
 use native.Mathlib.Omega.{arith}
-use Rattle.terms.specs.Lists.{All, none as all-none, both, any→, →any, All-map, All-both, All-append, Any-left, cases}
+use Rattle.terms.specs.Lists.{All, none as all-none, both, any, any→, →any, All-map, All-both, All-append, Any-left, cases}
 use Rattle.terms.specs.Term.{Term, unknown, with, size, size*, members, kernel, over, list, occurs, subst}
 use Rattle.terms.specs.Shape.{number, arguments}
 use Rattle.terms.specs.Flat.{size-positive}
 use Rattle.terms.specs.Formed.{Equation}
-use Rattle.terms.specs.Answers.{Named}
+use Rattle.terms.specs.Answers.{Binding}
 use Rattle.search.specs.declared.steps.Tails.{Tails}
 use Rattle.search.specs.declared.steps.Tails.the-variants.{Different}
 use Rattle.search.specs.declared.steps.Step.{Step}
-use Rattle.search.specs.State.{State, Node, dead, live, pend, piled, renewed}
+use Rattle.search.specs.State.{State, Node, dead, live, Entry, pend, piled, renewed}
 use Rattle.search.specs.Children.{bound-state, bound, then-bound, pile-up, settle, split, pairwise, take}
 use Rattle.search.specs.StepView.{Tailed, neither, left, right, different, same, sided-name, sided-term, Stepped, drops-unknown, drops-empty, binds, postpones, decomposes, splits, dead-buried, dead-functors, dead-clash, take-bind, take-postpone, Bound-to, bound-inside, bound-once, bound-to}
 use Rattle.invariants.specs.Tally.{tally, tally-fewer, tally-suc}
@@ -25,12 +26,16 @@ use Rattle.invariants.specs.Orderly.{named, named-after, named-last, nam
 use Rattle.invariants.specs.Weight.{weight, weights, equation-size, weight-some, weights-replaced, members-fit, kernel-fits, list-fits, list-length}
 use Rattle.invariants.specs.SplitPicks.{split-each}
 
+-- does y wait in the pile?
+unfoldable pub waits : ℕ → List Entry → Bool
+waits y ns = any (λ n. eqb (n .name) y) ns
+
 -- the unknowns in use that are not bound, and those that wait in the pile
 unfoldable pub unbound : State → ℕ
 unbound st = tally (st .next) (λ y. not (named y (st .bindings)))
 
 unfoldable pub waiting : State → ℕ
-waiting st = tally (st .next) (λ y. named y (st .pile))
+waiting st = tally (st .next) (λ y. waits y (st .pile))
 
 pub data Falls (arities : List ℕ) (from : State) : Node → Type 0 where
   ends-dead : Falls arities from dead
@@ -60,7 +65,7 @@ pub data Falls (arities : List ℕ) (from : State) : Node → Type 0 where
 
 -- ---- bindings
 
-named-more : (y : ℕ) (bs cs : List Named) → not (named y (bs ++ cs)) ≡ true → not (named y bs) ≡ true
+named-more : (y : ℕ) (bs cs : List Binding) → not (named y (bs ++ cs)) ≡ true → not (named y bs) ≡ true
 unfolding named
 named-more y bs cs e = cases (named y bs) (λ h. absurd (false≢true (sym (not-true _ e) ∙ →any (Any-left cs (any→ _ bs h))))) (λ h. rw h)
 

@@ -4,7 +4,7 @@ use Prim.Native.Nat.{ℕ, _+_}
 use mathlib.Core.List.{List, [], _∷_, _++_}
 use lib.Dec.{ltb}
 use lib.ListN.{length, getD}
-use Rattle.terms.specs.Answers.{Named}
+use Rattle.terms.specs.Answers.{Binding}
 use Rattle.terms.specs.Bounds.{Bounds}
 use Rattle.text.specs.Keys.{edition-key, end-key, visited-key, answers-key, bindings-key, unknown-key, value-key}
 use Rattle.text.specs.Text.{choose, decimal, line}
@@ -36,10 +36,10 @@ list-lines b end arities visited answers ws = prepend (list-header end visited a
 
 -- ---- how deep the words' brackets stand: those of values alone
 
-unfoldable pub binding-depths : List Named → List ℕ
+unfoldable pub binding-depths : List Binding → List ℕ
 binding-depths [] = []
 binding-depths (x ∷ xs) = 0 ∷ (depths 0 (x .value) ++ binding-depths xs)
 
-unfoldable pub list-depths : List (List Named) → List ℕ
+unfoldable pub list-depths : List (List Binding) → List ℕ
 list-depths [] = []
 list-depths (l ∷ ls) = 0 ∷ (binding-depths l ++ list-depths ls)

@@ -11,7 +11,7 @@ use Rattle.search.specs.Ends.{end-of, end-word}
 use Rattle.search.specs.RunLimits.{most-steps}
 use Rattle.search.specs.declared.ends.End.{End}
 use Rattle.search.specs.declared.ends.Listed.the-variants.{As, Nowhere}
-use Rattle.terms.specs.Answers.{Named}
+use Rattle.terms.specs.Answers.{Binding}
 use Rattle.terms.specs.Bounds.{edition-one, edition-one-proper}
 use Rattle.checks.specs.Check.{refused, above, check-answers}
 use Rattle.checks.specs.Checked.{never-fine}
@@ -59,7 +59,7 @@ held-by first n text untouched e f = refl
 held-by first n text (written {length = m} p) e f = written-held first n text m (sym f) (rw e at p)
 
 module _ (arities : List ℕ) (end visited answers : ℕ) (ws before : List ℕ) where
-  abbrev list : List (List Named)
+  abbrev list : List (List Binding)
   list = answers-of edition-one arities answers ws
 
   -- what `write_answers` owes

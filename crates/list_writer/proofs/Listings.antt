@@ -7,7 +7,7 @@ use mathlib.Core.List.{List, [], _∷_, _++_, append-assoc, append-nil}
 use lib.ListN.{length, drop, getD, length-append, length-drop}
 use lib.Seq.{drop-drop, drop-at, getD-drop}
 use borrow.Author.Tests.{lt-ltb}
-use Rattle.terms.specs.Answers.{Named, binding-words, answer-words, listed}
+use Rattle.terms.specs.Answers.{Binding, binding-words, answer-words, listed}
 use Rattle.terms.specs.Bounds.{Bounds}
 use Rattle.terms.specs.Flat.{length-words}
 use Rattle.terms.specs.Kind.{Worded}
@@ -46,18 +46,18 @@ module _ {b : Bounds} {arities : List ℕ} {n : ℕ} (worded : Worded b arities 
   abbrev limit : ℕ
   limit = b .nesting
 
-  pub binding-over : {x : Named} → Bound arities n x → (rest : List ℕ) (p : ℕ) → drop p ws ≡ x .name ∷ (words b (x .value) ++ rest)
+  pub binding-over : {x : Binding} → Bound arities n x → (rest : List ℕ) (p : ℕ) → drop p ws ≡ x .name ∷ (words b (x .value) ++ rest)
       → Part limit (binding-at b arities ws p) p (0 ∷ depths 0 (x .value)) (line unknown-key (decimal (x .name)) ++ line value-key (text (x .value))) (ended (p + 1 + size (x .value)) [])
   unfolding binding-at
   binding-over {x} f rest p e =
       chain (number-part ws p e limit unknown-key (λ _ q. term-line b arities ws value-key q)) (line-over worded ws value-key (f .value) rest (p + 1) (after-word ws p e)) refl refl
 
-  length-binding-depths : (xs : List Named) → length (binding-depths xs) ≡ length (binding-words b xs)
+  length-binding-depths : (xs : List Binding) → length (binding-depths xs) ≡ length (binding-words b xs)
   unfolding binding-depths binding-words
   length-binding-depths [] = refl
   length-binding-depths (x ∷ xs) = simp (length-append, length-depths, length-words, length-binding-depths xs)
 
-  pub bindings-over : (xs : List Named) → All (Bound arities n) xs → (rest : List ℕ) (p : ℕ) → drop p ws ≡ binding-words b xs ++ rest
+  pub bindings-over : (xs : List Binding) → All (Bound arities n) xs → (rest : List ℕ) (p : ℕ) → drop p ws ≡ binding-words b xs ++ rest
       → Part limit (repeat (binding-at b arities ws) (length xs) p) p (binding-depths xs) (binding-lines xs) (ended (p + length (binding-words b xs)) [])
   unfolding repeat binding-depths binding-lines binding-words
   bindings-over [] fs rest p e = on-to (ap (λ q. ended q []) (sym (add-zero p))) (part-bytes limit p [])
@@ -71,7 +71,7 @@ module _ {b : Bounds} {arities : List ℕ} {n : ℕ} (worded : Worded b arities 
       (spelt (append-assoc (line unknown-key (decimal (x .name))) (line value-key (text t)) (binding-lines xs))
       (part-then (repeat (binding-at b arities ws) (length xs)) (binding-over f r p e′) there (omega (arith, length-depths 0 t))))
 
-  pub answers-over : (l : List (List Named)) → All (All (Bound arities n)) l → (p : ℕ) → drop p ws ≡ list-words b l
+  pub answers-over : (l : List (List Binding)) → All (All (Bound arities n)) l → (p : ℕ) → drop p ws ≡ list-words b l
       → Part limit (repeat (answer-at b arities ws) (length l) p) p (list-depths l) (answer-lines l) (ended (p + length (list-words b l)) [])
   unfolding repeat list-depths answer-lines list-words listed answer-words answer-at
   answers-over [] fs p e = on-to (ap (λ q. ended q []) (sym (add-zero p))) (part-bytes limit p [])
@@ -86,12 +86,12 @@ module _ {b : Bounds} {arities : List ℕ} {n : ℕ} (worded : Worded b arities 
       (spelt (append-assoc (line bindings-key (decimal (length xs))) (binding-lines xs) (answer-lines l))
       (part-then (repeat (answer-at b arities ws) (length l)) here there (omega (arith, length-binding-depths xs))))
 
-header-first : (end : List ℕ) (visited : ℕ) (l : List (List Named)) → (list-header end visited (length l) ++ answer-lines l) ++ [] ≡ list-text end visited l
+header-first : (end : List ℕ) (visited : ℕ) (l : List (List Binding)) → (list-header end visited (length l) ++ answer-lines l) ++ [] ≡ list-text end visited l
 unfolding list-header list-text
 header-first end visited l = simp (append-nil, append-assoc)
 
 -- the lines of an answer list
-pub list-over : {b : Bounds} {arities : List ℕ} {n : ℕ} → Worded b arities n → (end : List ℕ) (visited : ℕ) (l : List (List Named)) → All (All (Bound arities n)) l
+pub list-over : {b : Bounds} {arities : List ℕ} {n : ℕ} → Worded b arities n → (end : List ℕ) (visited : ℕ) (l : List (List Binding)) → All (All (Bound arities n)) l
     → list-lines b end arities visited (length l) (list-words b l) ≡ settled (too-deep-in-list b l) (ended (length (list-words b l)) (list-text end visited l))
 unfolding list-lines too-deep-in-list prepend
 list-over {b} worded end visited l f =

@@ -5,7 +5,7 @@ use mathlib.Core.List.{List, [], _∷_, _++_}
 use lib.ListN.{length}
 use Rattle.terms.specs.Bounds.{Bounds}
 use Rattle.terms.specs.Lists.{All}
-use Rattle.terms.specs.Answers.{Named, answer-words}
+use Rattle.terms.specs.Answers.{Binding, answer-words}
 use Rattle.terms.specs.Listing.{Bound}
 use Rattle.search.specs.declared.ends.End.the-variants.{Done}
 use Rattle.search.specs.Run.{Loan, Outcome, Visit, found}
@@ -38,10 +38,10 @@ whole b vs = record { end = Done; visited = length vs; answers = all-found b vs 
 -- ---- of an answer
 
 -- bindings in solved form, over the first n unknowns
-pub record In-form (arities : List ℕ) (n : ℕ) (bs : List Named) : Type 0 where
+pub record In-form (arities : List ℕ) (n : ℕ) (bs : List Binding) : Type 0 where
   pub solved : Solved bs
   pub formed : All (Bound arities n) bs
 
 -- the words of bindings in form
 pub data Answers-in-form (b : Bounds) (arities : List ℕ) (n : ℕ) : List ℕ → Type 0 where
-  words-of : (bs : List Named) → In-form arities n bs → Answers-in-form b arities n (answer-words b bs)
+  words-of : (bs : List Binding) → In-form arities n bs → Answers-in-form b arities n (answer-words b bs)

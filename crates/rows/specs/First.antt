@@ -13,12 +13,12 @@ use Rattle.terms.specs.Bounds.{Bounds}
 use Rattle.terms.specs.Kind.{Worded}
 use Rattle.terms.specs.Term.{Term, words, size}
 use Rattle.terms.specs.Formed.{Equation, Formed}
-use Rattle.terms.specs.Answers.{binding-words, pile-words}
+use Rattle.terms.specs.Answers.{binding-words}
 use Rattle.terms.specs.Flat.{length-words}
 use Rattle.terms.specs.Walk.{term-ends}
-use Rattle.search.specs.State.{State, pend, size-equations, size-named, state-size}
+use Rattle.search.specs.State.{State, pend, size-equations, size-entries, size-bindings, state-size}
 use Rattle.search.specs.Classify.{classify}
-use Rattle.search.specs.StateWords.{pending-words, state-words, length-pending, length-pile, length-bindings}
+use Rattle.search.specs.StateWords.{pending-words, pile-words, state-words, length-pending, length-pile, length-bindings}
 use Rattle.rows.specs.declared.parts.Rest.{Rest}
 use Rattle.rows.specs.declared.first.First.{First}
 use Rattle.rows.specs.declared.first.Subject.{Subject}
@@ -116,16 +116,16 @@ module _ {b : Bounds} {l : List ℕ} {from : ℕ} {st : State} (H : Holds b l fr
       let s = cut-sizes in
       let d : length D ≡ size-equations ds = length-pending b ds in
       let e : length E ≡ size-equations es = length-pending b es in
-      let p : length P ≡ size-named (st .pile) = length-pile b (st .pile) in
-      let q : length B ≡ size-named (st .bindings) = length-bindings b (st .bindings) in
+      let p : length P ≡ size-entries (st .pile) = length-pile b (st .pile) in
+      let q : length B ≡ size-bindings (st .bindings) = length-bindings b (st .bindings) in
       let left : size-equations (st .pending) - size-equations ds ≡ size-equations es = omega arith in
-      let bound : size-equations (st .pending) + size-named (st .pile) + size-named (st .bindings) - size-equations (st .pending) - size-named (st .pile) ≡ size-named (st .bindings) = omega arith in
+      let bound : size-equations (st .pending) + size-entries (st .pile) + size-bindings (st .bindings) - size-equations (st .pending) - size-entries (st .pile) ≡ size-bindings (st .bindings) = omega arith in
       let one : from + HEADER + size-equations ds + size-equations es ≡ from + HEADER + (size-equations ds + size-equations es) = omega arith in
-      let two : from + HEADER + size-equations ds + size-equations es + size-named (st .pile) ≡ from + HEADER + (size-equations ds + size-equations es + size-named (st .pile)) = omega arith in
+      let two : from + HEADER + size-equations ds + size-equations es + size-entries (st .pile) ≡ from + HEADER + (size-equations ds + size-equations es + size-entries (st .pile)) = omega arith in
       record {
         pending = rw left (part (size-equations ds) (size-equations es) (omega arith) ∙ middle D E (P ++ B) (size-equations ds) (size-equations es) (append-assoc D E (P ++ B)) d e);
-        pile = rw (left, one) (part (size-equations ds + size-equations es) (size-named (st .pile)) (omega arith) ∙ middle (D ++ E) P B _ _ refl (omega (arith, length-append D E)) p);
-        bound = rw (left, two, bound) (part (size-equations ds + size-equations es + size-named (st .pile)) (size-named (st .bindings)) (omega arith)
+        pile = rw (left, one) (part (size-equations ds + size-equations es) (size-entries (st .pile)) (omega arith) ∙ middle (D ++ E) P B _ _ refl (omega (arith, length-append D E)) p);
+        bound = rw (left, two, bound) (part (size-equations ds + size-equations es + size-entries (st .pile)) (size-bindings (st .bindings)) (omega arith)
             ∙ middle ((D ++ E) ++ P) B [] _ _ (sym (append-assoc (D ++ E) P B) ∙ ap (λ (ws : List ℕ). ((D ++ E) ++ P) ++ ws) (sym (append-nil B))) (omega (arith, length-append (D ++ E) P, length-append D E)) q);
         bindings = refl;
       }

@@ -11,11 +11,12 @@ use Rattle.terms.specs.Bounds.{Bounds}
 use Rattle.terms.specs.Kind.{takes, Worded}
 use Rattle.terms.specs.Term.{words, size}
 use Rattle.terms.specs.Formed.{Formed}
-use Rattle.terms.specs.Answers.{Named, pile-words}
 use Rattle.terms.specs.Lists.{All, none, both, any, or-neither, cases}
 use Rattle.terms.specs.Flat.{length-words, eqb-shift}
 use Rattle.terms.specs.Walk.{span, term-ends}
+use Rattle.search.specs.State.{Entry}
 use Rattle.search.specs.Children.{entries, others}
+use Rattle.search.specs.StateWords.{pile-words}
 use Rattle.rows.specs.declared.parts.Part.{Part}
 use Rattle.rows.specs.declared.parts.Part.the-variants.{Entries, Others}
 use Rattle.rows.specs.HeldWords.{holds}
@@ -106,32 +107,32 @@ others-absent b arities x ws h = sym (selected-start b arities Others x true ws)
 
 -- ---- the pile's trees
 
-pub pile-append : (b : Bounds) (ms ns : List Named) → pile-words b (ms ++ ns) ≡ pile-words b ms ++ pile-words b ns
+pub pile-append : (b : Bounds) (ms ns : List Entry) → pile-words b (ms ++ ns) ≡ pile-words b ms ++ pile-words b ns
 unfolding pile-words
 pile-append b [] ns = refl
-pile-append b (m ∷ ms) ns = ap (λ ws. (b .first-unknown + m .name) ∷ ws) (ap (λ ws. words b (m .value) ++ ws) (pile-append b ms ns) ∙ sym (append-assoc (words b (m .value)) (pile-words b ms) (pile-words b ns)))
+pile-append b (m ∷ ms) ns = ap (λ ws. (b .first-unknown + m .name) ∷ ws) (ap (λ ws. words b (m .term) ++ ws) (pile-append b ms ns) ∙ sym (append-assoc (words b (m .term)) (pile-words b ms) (pile-words b ns)))
 
 -- the entries of x, or the others
-unfoldable pub chosen : Part → ℕ → List Named → List Named
+unfoldable pub chosen : Part → ℕ → List Entry → List Entry
 chosen Entries x ns = entries x ns
 chosen Others x ns = others x ns
 
 module _ {b : Bounds} {arities : List ℕ} {k : ℕ} (worded : Worded b arities k) (x : ℕ) where
   -- the first entry's words, where it is wanted, before those of the others
-  chosen-entry : (part : Part) (n : Named) (ns : List Named)
-      → pile-words b (chosen part x (n ∷ ns)) ≡ kept (wants part (b .first-unknown + n .name) (b .first-unknown + x)) ((b .first-unknown + n .name) ∷ words b (n .value)) ++ pile-words b (chosen part x ns)
+  chosen-entry : (part : Part) (n : Entry) (ns : List Entry)
+      → pile-words b (chosen part x (n ∷ ns)) ≡ kept (wants part (b .first-unknown + n .name) (b .first-unknown + x)) ((b .first-unknown + n .name) ∷ words b (n .term)) ++ pile-words b (chosen part x ns)
   unfolding chosen entries others pile-words wants kept
   chosen-entry Entries n ns = rw (eqb-shift (b .first-unknown) (n .name) x) (cases (eqb (n .name) x) (λ t. rw t) (λ f. rw f))
   chosen-entry Others n ns = rw (eqb-shift (b .first-unknown) (n .name) x) (cases (eqb (n .name) x) (λ t. rw t) (λ f. rw f))
 
-  pub selection-pile : (part : Part) {ns : List Named} → All (λ n. Formed arities k (n .value)) ns
+  pub selection-pile : (part : Part) {ns : List Entry} → All (λ n. Formed arities k (n .term)) ns
       → selection b arities part (b .first-unknown + x) (pile-words b ns) ≡ pile-words b (chosen part x ns)
   unfolding selected chosen entries others pile-words
   selection-pile Entries none = refl
   selection-pile Others none = refl
   selection-pile part (both {x = n} {xs = ns} f fs) =
-      let e : term-end b arities (words b (n .value) ++ pile-words b ns) ≡ size (n .value) = term-ends worded f (pile-words b ns) in
-      let l : length (words b (n .value)) ≡ size (n .value) = length-words b (n .value) in
-      selection-entry b arities part (b .first-unknown + x) (b .first-unknown + n .name) (words b (n .value) ++ pile-words b ns)
-      ∙ rw (e, take-at (words b (n .value)) (pile-words b ns) (size (n .value)) l, drop-at (words b (n .value)) (pile-words b ns) (size (n .value)) l, selection-pile part fs)
+      let e : term-end b arities (words b (n .term) ++ pile-words b ns) ≡ size (n .term) = term-ends worded f (pile-words b ns) in
+      let l : length (words b (n .term)) ≡ size (n .term) = length-words b (n .term) in
+      selection-entry b arities part (b .first-unknown + x) (b .first-unknown + n .name) (words b (n .term) ++ pile-words b ns)
+      ∙ rw (e, take-at (words b (n .term)) (pile-words b ns) (size (n .term)) l, drop-at (words b (n .term)) (pile-words b ns) (size (n .term)) l, selection-pile part fs)
       (sym (chosen-entry part n ns))

@@ -12,10 +12,10 @@ use Rattle.room.specs.Room.{seg, put, Within, length-put, length-seg, seg-appen
 use Rattle.room.specs.Parts.{Apart, earlier, later, seg-put}
 use Rattle.room.specs.Layout.{HEADER, stride}
 use Rattle.terms.specs.Bounds.{Bounds}
-use Rattle.terms.specs.Answers.{binding-words, pile-words}
+use Rattle.terms.specs.Answers.{binding-words}
 use Rattle.terms.specs.Lists.{cases}
-use Rattle.search.specs.State.{State, Node, dead, live, size-equations, size-named, state-size}
-use Rattle.search.specs.StateWords.{pending-words, state-words, length-state}
+use Rattle.search.specs.State.{State, Node, dead, live, size-equations, size-entries, state-size}
+use Rattle.search.specs.StateWords.{pending-words, pile-words, state-words, length-state}
 use Rattle.rows.specs.declared.parts.Rest.{Rest}
 use Rattle.rows.specs.declared.parts.Made.{Made}
 use Rattle.rows.specs.declared.parts.Made.the-variants.{Dead, Names, Large, Live}
@@ -27,7 +27,7 @@ use Rattle.rows.specs.Finished.{Finished, made, finished-length}
 unfoldable pub header-for : State → Header
 header-for st = record {
   pending = size-equations (st .pending);
-  pile = size-named (st .pile);
+  pile = size-entries (st .pile);
   body = state-size st;
   bindings = length (st .bindings);
   next = st .next;

@@ -9,11 +9,11 @@ use Rattle.room.specs.Replaced.{replaced, replaced-nil, replaced-cons, replaced
 use Rattle.terms.specs.Bounds.{Bounds, UnknownsFirst}
 use Rattle.terms.specs.Term.{Term, words, subst}
 use Rattle.terms.specs.Formed.{Equation, sides, row}
-use Rattle.terms.specs.Answers.{Named, binding-words, pile-words}
+use Rattle.terms.specs.Answers.{Binding, binding-words}
 use Rattle.terms.specs.Lists.{cases}
-use Rattle.search.specs.State.{State}
+use Rattle.search.specs.State.{State, Entry}
 use Rattle.search.specs.Children.{replace-in, entries, others, released, kept, bound-state}
-use Rattle.search.specs.StateWords.{pending-words, state-words}
+use Rattle.search.specs.StateWords.{pending-words, pile-words, state-words}
 use Rattle.rows.specs.HeldWords.{replaced-words}
 
 -- ---- joined
@@ -25,7 +25,7 @@ module _ (b : Bounds) where
   pending-append (d ∷ ds) es =
       rw (pending-append ds es) (simp append-assoc)
 
-  pub bindings-append : (ms ns : List Named) → binding-words b (ms ++ ns) ≡ binding-words b ms ++ binding-words b ns
+  pub bindings-append : (ms ns : List Binding) → binding-words b (ms ++ ns) ≡ binding-words b ms ++ binding-words b ns
   unfolding binding-words
   bindings-append [] ns = refl
   bindings-append (m ∷ ms) ns = rw (bindings-append ms ns) (ap (λ (ws : List ℕ). m .name ∷ ws) (sym (append-assoc (words b (m .value)) (binding-words b ms) (binding-words b ns))))
@@ -49,7 +49,7 @@ module _ {b : Bounds} (order : UnknownsFirst b) {x : ℕ} (h : x < b .unknown-wo
       (side (e .right) (row b (sides es)) ∙ ap (λ (ws : List ℕ). words b (subst x t (e .right)) ++ ws) (replaced-pending es))
 
   -- entries of x become t = {..|t}
-  pub replaced-entries : (ns : List Named) → put-for (pile-words b (entries x ns)) ≡ pending-words b (map (released x t) (entries x ns))
+  pub replaced-entries : (ns : List Entry) → put-for (pile-words b (entries x ns)) ≡ pending-words b (map (released x t) (entries x ns))
   unfolding entries pile-words pending-words row sides released
   replaced-entries [] = replaced-nil (b .first-unknown + x) (words b t)
   replaced-entries (n ∷ ns) =
@@ -57,11 +57,11 @@ module _ {b : Bounds} (order : UnknownsFirst b) {x : ℕ} (h : x < b .unknown-wo
       (λ e.
       rw (e, replaced-cons, image-same (b .first-unknown + x) (words b t) (b .first-unknown + n .name) (ap (λ (j : ℕ). b .first-unknown + j) (eqb-true (n .name) x e)))
       (ap (λ (ws : List ℕ). words b t ++ ws)
-      (side (n .value) (pile-words b (entries x ns)) ∙ ap (λ (ws : List ℕ). words b (subst x t (n .value)) ++ ws) (replaced-entries ns))))
+      (side (n .term) (pile-words b (entries x ns)) ∙ ap (λ (ws : List ℕ). words b (subst x t (n .term)) ++ ws) (replaced-entries ns))))
       (λ e. rw e (replaced-entries ns))
 
   -- the others keep their unknown
-  pub replaced-others : (ns : List Named) → put-for (pile-words b (others x ns)) ≡ pile-words b (map (kept x t) (others x ns))
+  pub replaced-others : (ns : List Entry) → put-for (pile-words b (others x ns)) ≡ pile-words b (map (kept x t) (others x ns))
   unfolding others pile-words kept
   replaced-others [] = replaced-nil (b .first-unknown + x) (words b t)
   replaced-others (n ∷ ns) =
@@ -70,7 +70,7 @@ module _ {b : Bounds} (order : UnknownsFirst b) {x : ℕ} (h : x < b .unknown-wo
       (λ e.
       rw (e, replaced-cons, image-other (b .first-unknown + x) (words b t) (b .first-unknown + n .name) (λ q. eqb-false (n .name) x e (omega arith)))
       (ap (λ (ws : List ℕ). (b .first-unknown + n .name) ∷ ws)
-      (side (n .value) (pile-words b (others x ns)) ∙ ap (λ (ws : List ℕ). words b (subst x t (n .value)) ++ ws) (replaced-others ns))))
+      (side (n .term) (pile-words b (others x ns)) ∙ ap (λ (ws : List ℕ). words b (subst x t (n .term)) ++ ws) (replaced-others ns))))
 
   -- the body of the state with x bound
   pub bound-body : (st : State)

@@ -8,12 +8,11 @@ use Rattle.terms.specs.Lists.{product}
 use Rattle.terms.specs.Term.{Term, unknown, occurs, subst, members, kernel, over}
 use Rattle.terms.specs.Shape.{is-unknown, number, arguments}
 use Rattle.terms.specs.Formed.{Equation}
-use Rattle.terms.specs.Answers.{Named}
 use Rattle.search.specs.declared.steps.Tails.{Tails}
 use Rattle.search.specs.declared.steps.Tails.the-variants.{Neither, Left, Right, Different, Same}
 use Rattle.search.specs.declared.steps.Step.{Step}
 use Rattle.search.specs.declared.steps.Step.the-variants.{Drop, Bind, Postpone, Decompose, Split, Dead}
-use Rattle.search.specs.State.{State, Node, dead, live, remade, noted, pend, piled, renewed}
+use Rattle.search.specs.State.{State, Node, dead, live, Entry, remade, noted, pend, piled, renewed}
 use Rattle.search.specs.Classify.{classify}
 
 -- ---- a binding of x to t: it replaces x in all pending equations
@@ -22,20 +21,20 @@ unfoldable pub replace-in : ℕ → Term → Equation → Equation
 replace-in x t e = record { left = subst x t (e .left); right = subst x t (e .right) }
 
 -- the pile's entries of x, and the others
-unfoldable pub entries : ℕ → List Named → List Named
+unfoldable pub entries : ℕ → List Entry → List Entry
 entries x [] = []
 entries x (n ∷ ns) = cond (eqb (n .name) x) (n ∷ entries x ns) (entries x ns)
 
-unfoldable pub others : ℕ → List Named → List Named
+unfoldable pub others : ℕ → List Entry → List Entry
 others x [] = []
 others x (n ∷ ns) = cond (eqb (n .name) x) (others x ns) (n ∷ others x ns)
 
 -- entries of x leave the pile, as t = {..|t}; the others stay, with x replaced
-unfoldable pub released : ℕ → Term → Named → Equation
-released x t n = record { left = t; right = subst x t (n .value) }
+unfoldable pub released : ℕ → Term → Entry → Equation
+released x t n = record { left = t; right = subst x t (n .term) }
 
-unfoldable pub kept : ℕ → Term → Named → Named
-kept x t n = record { name = n .name; value = subst x t (n .value) }
+unfoldable pub kept : ℕ → Term → Entry → Entry
+kept x t n = record { name = n .name; term = subst x t (n .term) }
 
 -- released entries go to the end of the pending list, in pile order; earlier bindings stay as written
 unfoldable pub bound-state : ℕ → Term → State → State
@@ -130,15 +129,15 @@ take Dead t u st = dead ∷ []
 
 -- ---- nothing is pending: the members of all the pile's entries of x, in pile order
 
-unfoldable pub joined : ℕ → List Named → List Term
-joined x ns = flatMap (λ n. members (n .value)) (entries x ns)
+unfoldable pub joined : ℕ → List Entry → List Term
+joined x ns = flatMap (λ n. members (n .term)) (entries x ns)
 
 -- what a join of x leaves of a state with these entries
-abbrev pub without : ℕ → List Named → State → State
+abbrev pub without : ℕ → List Entry → State → State
 without x ns st = remade [] (others x ns) (st .next) st
 
 -- the left unknown X of the first entry is bound to {members|N}, N new; with no pile the state is an answer and has no child
-unfoldable pub join : List Named → State → List Node
+unfoldable pub join : List Entry → State → List Node
 join [] st = []
 join (n ∷ ns) st =
     bound (n .name) (over (joined (n .name) (n ∷ ns)) (unknown (st .next)))

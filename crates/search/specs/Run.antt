@@ -7,10 +7,10 @@ use lib.Dec.{eqb, ltb, leb}
 use lib.ListN.{length}
 use Rattle.terms.specs.Bounds.{Bounds}
 use Rattle.terms.specs.Formed.{Equation, Question}
-use Rattle.terms.specs.Answers.{Named, answer-words, listed}
+use Rattle.terms.specs.Answers.{Binding, answer-words, listed}
 use Rattle.search.specs.declared.ends.End.{End}
 use Rattle.search.specs.declared.ends.End.the-variants.{Done, Steps, Depth, Names, Size, Space}
-use Rattle.search.specs.State.{State, Node, dead, live, start, state-size}
+use Rattle.search.specs.State.{State, Node, dead, live, Entry, start, state-size}
 use Rattle.search.specs.Children.{children}
 
 -- ---- the nodes, depth first, children in order
@@ -18,7 +18,7 @@ use Rattle.search.specs.Children.{children}
 -- the answer that a node is, if it is one
 pub data Answer : Type 0 where
   silent : Answer
-  states : List Named → Answer
+  states : List Binding → Answer
 
 pub record Visit : Type 0 where
   pub depth : ℕ
@@ -27,7 +27,7 @@ pub record Visit : Type 0 where
   pub answer : Answer
 
 -- with nothing pending and no pile, the state is an answer and states its bindings
-unfoldable pub answer-by : List Equation → List Named → List Named → Answer
+unfoldable pub answer-by : List Equation → List Entry → List Binding → Answer
 answer-by [] [] bs = states bs
 answer-by [] (n ∷ ns) bs = silent
 answer-by (e ∷ es) ns bs = silent

@@ -13,7 +13,7 @@ use Rattle.terms.specs.Answers.{binding-words, answer-words, listed}
 use Rattle.laws.specs.Equal.{is-this-unknown, is-empty, is-this-functor, pass, tests, equal}
 use Rattle.search.specs.declared.ends.End.the-variants.{Space}
 use Rattle.search.specs.Ends.{end-number}
-use Rattle.search.specs.State.{pend, piled, renewed, size-equations, size-named, state-size}
+use Rattle.search.specs.State.{pend, piled, renewed, size-equations, size-entries, size-bindings, state-size}
 use Rattle.search.specs.Classify.{tails-by, tails, only-tail, meet-by, meet, classify}
 use Rattle.search.specs.Children.{replace-in, entries, others, released, kept, bound-state, bound, then-bound, tail-pick, picks-of-t, picks-of-u, new-equations, joining, pile-up, settle, split, subject, object, pairwise, take, joined, join, children-by, children}
 use Rattle.search.specs.Run.{Loan, Outcome, Visit, states, Verdict, stops, overflows, goes-on, answer-by, visit, dead-visit, visits, root, found, found-size, ends, verdict, spend, after, scan, ran}
@@ -138,7 +138,7 @@ table =
 
 -- a key: to unfold it is to unfold every definition that a run computes by
 unfoldable pub computing : Unit {0}
-unfolding edition-one right same-bool outcome-is stops-with same-words same-lists all any is-this-unknown is-empty is-this-functor pass tests equal words size occurs subst members kernel over list pend piled renewed size-equations size-named state-size is-unknown number tails-by tails only-tail meet-by meet classify replace-in entries others released kept bound-state bound then-bound tail-pick picks-of-t picks-of-u product new-equations joining pile-up settle split subject object arguments pairwise take joined join children-by children answer-by visit dead-visit visits root binding-words answer-words listed found found-size ends verdict spend after scan ran flatMap
+unfolding edition-one right same-bool outcome-is stops-with same-words same-lists all any is-this-unknown is-empty is-this-functor pass tests equal words size occurs subst members kernel over list pend piled renewed size-equations size-entries size-bindings state-size is-unknown number tails-by tails only-tail meet-by meet classify replace-in entries others released kept bound-state bound then-bound tail-pick picks-of-t picks-of-u product new-equations joining pile-up settle split subject object arguments pairwise take joined join children-by children answer-by visit dead-visit visits root binding-words answer-words listed found found-size ends verdict spend after scan ran flatMap
 computing = tt
 
 pub table-right : all right table ≡ true

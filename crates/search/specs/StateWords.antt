@@ -7,12 +7,17 @@ use lib.ListN.{length, length-append}
 use Rattle.terms.specs.Bounds.{Bounds}
 use Rattle.terms.specs.Term.{words}
 use Rattle.terms.specs.Formed.{Equation, sides, row}
-use Rattle.terms.specs.Answers.{Named, binding-words, pile-words}
+use Rattle.terms.specs.Answers.{Binding, binding-words}
 use Rattle.terms.specs.Flat.{length-words}
-use Rattle.search.specs.State.{State, size-equations, size-named, state-size}
+use Rattle.search.specs.State.{State, Entry, size-equations, size-entries, size-bindings, state-size}
 
 unfoldable pub pending-words : Bounds → List Equation → List ℕ
 pending-words b es = row b (sides es)
+
+-- an entry X = t of the pile is held as the words of X and of t
+unfoldable pub pile-words : Bounds → List Entry → List ℕ
+pile-words b [] = []
+pile-words b (n ∷ ns) = (b .first-unknown + n .name) ∷ (words b (n .term) ++ pile-words b ns)
 
 unfoldable pub state-words : Bounds → State → List ℕ
 state-words b st = pending-words b (st .pending) ++ (pile-words b (st .pile) ++ binding-words b (st .bindings))
@@ -33,14 +38,14 @@ module _ (b : Bounds) where
         length-pending es,
       )
 
-  pub length-pile : (ns : List Named) → length (pile-words b ns) ≡ size-named ns
-  unfolding pile-words size-named
+  pub length-pile : (ns : List Entry) → length (pile-words b ns) ≡ size-entries ns
+  unfolding pile-words size-entries
   length-pile [] = refl
   length-pile (n ∷ ns) =
-      omega (arith, length-append (words b (n .value)) (pile-words b ns), length-words b (n .value), length-pile ns)
+      omega (arith, length-append (words b (n .term)) (pile-words b ns), length-words b (n .term), length-pile ns)
 
-  pub length-bindings : (ns : List Named) → length (binding-words b ns) ≡ size-named ns
-  unfolding binding-words size-named
+  pub length-bindings : (ns : List Binding) → length (binding-words b ns) ≡ size-bindings ns
+  unfolding binding-words size-bindings
   length-bindings [] = refl
   length-bindings (n ∷ ns) =
       omega (arith, length-append (words b (n .value)) (binding-words b ns), length-words b (n .value), length-bindings ns)

@@ -5,13 +5,13 @@ use Rattle.terms.specs.Bounds.{edition-one}
 use Rattle.checks.specs.Lent.{Table}
 use Rattle.terms.specs.Lists.{All, none, both, All-map}
 use Rattle.terms.specs.Formed.{Formed, Equation, sides}
-use Rattle.terms.specs.Answers.{Named}
+use Rattle.terms.specs.Answers.{Binding}
 use Rattle.terms.specs.FormedParts.{unknown-below}
 use Rattle.search.specs.State.{State}
 use Rattle.invariants.specs.Orderly.{Orderly, Usable-sides}
 use Rattle.binding.specs.At.{Sound}
 
-sides-formed : {arities : List ℕ} {n : ℕ} {bs : List Named} {es : List Equation} → All (Usable-sides arities n bs) es → All (Formed arities n) (sides es)
+sides-formed : {arities : List ℕ} {n : ℕ} {bs : List Binding} {es : List Equation} → All (Usable-sides arities n bs) es → All (Formed arities n) (sides es)
 unfolding sides
 sides-formed none = none
 sides-formed (both u us) = both (u .left .formed) (both (u .right .formed) (sides-formed us))
@@ -22,6 +22,6 @@ sound T few O = record {
   functors = T .functors;
   few = few;
   pending = sides-formed (O .pending);
-  pile = All-map (λ m u. u .value .formed) (O .pile);
+  pile = All-map (λ m u. u .term .formed) (O .pile);
   names = All-map (λ m u. unknown-below (u .name .formed)) (O .pile);
 }

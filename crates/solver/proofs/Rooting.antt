@@ -11,12 +11,12 @@ use Rattle.room.specs.Layout.{HEADER}
 use Rattle.terms.specs.Bounds.{edition-one, UNKNOWNS}
 use Rattle.terms.specs.Formed.{Question}
 use Rattle.terms.specs.Reading.{question-of}
-use Rattle.terms.specs.Answers.{binding-words, pile-words}
+use Rattle.terms.specs.Answers.{binding-words}
 use Rattle.search.specs.declared.ends.End.the-variants.{Steps, Size}
 use Rattle.search.specs.declared.limits.Limits.{Limits}
-use Rattle.search.specs.State.{start, size-equations, size-named, state-size}
+use Rattle.search.specs.State.{start, size-equations, size-entries, size-bindings, state-size}
 use Rattle.search.specs.Run.{Visit, visit, root, ran}
-use Rattle.search.specs.StateWords.{pending-words, state-words, length-pending}
+use Rattle.search.specs.StateWords.{pending-words, pile-words, state-words, length-pending}
 use Rattle.invariants.specs.Tree.{start-orderly}
 use Rattle.search_laws.specs.Going.{left, resumed-none, left-none, to-come, to-come-root}
 use Rattle.rows.specs.Header.{header-of}
@@ -39,11 +39,11 @@ module _ {unknowns : ℕ} {arities ws : List ℕ} {limits : Limits} {l : List �
   words-size = sym (length-pending edition-one (q .equations)) ∙ ap length (A .worded)
 
   root-size : state-size (start q) ≡ length ws
-  unfolding state-size size-named
+  unfolding state-size size-entries size-bindings
   root-size = omega (arith, words-size)
 
   header-is : header-for (start q) ≡ root-header ws unknowns
-  unfolding header-for size-named question-of
+  unfolding header-for size-entries size-bindings question-of
   header-is = rw (root-size, words-size)
 
   root-body : state-words edition-one (start q) ≡ ws

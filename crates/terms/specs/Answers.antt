@@ -1,26 +1,21 @@
--- An unknown and a term beside it: a binding, or an entry of the pile. The words of an answer, SPECIFICATION 3.4: an answer is its
--- number of bindings, then for each the unknown's number and its value.
-use Prim.Native.Nat.{ℕ, _+_}
+-- A binding: an unknown's number and its value. The words of an answer, SPECIFICATION 3.4: an answer is its number of bindings, then for each the
+-- unknown's number and its value.
+use Prim.Native.Nat.{ℕ}
 use mathlib.Core.Path.{_≡_, refl, ap, sym, _∙_}
 use mathlib.Core.List.{List, [], _∷_, _++_, append-assoc}
 use lib.ListN.{length}
 use Rattle.terms.specs.Bounds.{Bounds}
 use Rattle.terms.specs.Term.{Term, words}
 
-pub record Named : Type 0 where
+pub record Binding : Type 0 where
   pub name : ℕ
   pub value : Term
 
-unfoldable pub binding-words : Bounds → List Named → List ℕ
+unfoldable pub binding-words : Bounds → List Binding → List ℕ
 binding-words b [] = []
 binding-words b (n ∷ ns) = n .name ∷ (words b (n .value) ++ binding-words b ns)
 
--- an entry X = t of the pile is held as the words of X and of t
-unfoldable pub pile-words : Bounds → List Named → List ℕ
-pile-words b [] = []
-pile-words b (n ∷ ns) = (b .first-unknown + n .name) ∷ (words b (n .value) ++ pile-words b ns)
-
-unfoldable pub answer-words : Bounds → List Named → List ℕ
+unfoldable pub answer-words : Bounds → List Binding → List ℕ
 answer-words b ns = length ns ∷ binding-words b ns
 
 -- the words of answers one after the other, as the lent buffer holds them

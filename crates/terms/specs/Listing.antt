@@ -5,7 +5,7 @@ use mathlib.Core.Path.{_≡_, refl, sym, _∙_}
 use mathlib.Core.List.{List, [], _∷_, _++_, map, append-assoc, head-eq-of-cons-eq, tail-eq-of-cons-eq}
 use native.Mathlib.Omega.{arith}
 use lib.ListN.{length, drop}
-use Rattle.terms.specs.Answers.{Named, binding-words, answer-words, listed}
+use Rattle.terms.specs.Answers.{Binding, binding-words, answer-words, listed}
 use Rattle.terms.specs.Bounds.{Bounds}
 use Rattle.terms.specs.Kind.{kind, takes, Worded}
 use Rattle.terms.specs.Term.{Term, words}
@@ -14,18 +14,18 @@ use Rattle.terms.specs.Formed.{Formed}
 use Rattle.terms.specs.Reading.{top, push, words-determine}
 
 -- a binding is formed: its unknown is one of the first n, and its value is formed
-pub record Bound (arities : List ℕ) (n : ℕ) (x : Named) : Type 0 where
+pub record Bound (arities : List ℕ) (n : ℕ) (x : Binding) : Type 0 where
   pub name : x .name < n
   pub value : Formed arities n (x .value)
 
 -- the words of a list of answers
-unfoldable pub list-words : Bounds → List (List Named) → List ℕ
+unfoldable pub list-words : Bounds → List (List Binding) → List ℕ
 list-words b l = listed (map (answer-words b) l)
 
 pub record Parts : Type 0 where
   pub terms : List Term
-  pub bindings : List Named
-  pub answers : List (List Named)
+  pub bindings : List Binding
+  pub answers : List (List Binding)
 
 unfoldable pub nothing : Parts
 nothing = record { terms = []; bindings = []; answers = [] }
@@ -47,16 +47,16 @@ parts b arities (w ∷ ws) answers (suc bindings) zero = name-word w (parts b ar
 parts b arities (w ∷ ws) (suc answers) zero zero = count-word (parts b arities ws answers w 0)
 parts b arities (w ∷ ws) zero zero zero = nothing
 
-unfoldable pub answers-of : Bounds → (arities : List ℕ) (answers : ℕ) → List ℕ → List (List Named)
+unfoldable pub answers-of : Bounds → (arities : List ℕ) (answers : ℕ) → List ℕ → List (List Binding)
 answers-of b arities answers ws = parts b arities ws answers 0 0 .answers
 
 -- ---- bindings are determined by their words
 
-same-named : {x y : Named} → x .name ≡ y .name → x .value ≡ y .value → x ≡ y
+same-named : {x y : Binding} → x .name ≡ y .name → x .value ≡ y .value → x ≡ y
 same-named p q = λ i. record { name = p i; value = q i }
 
 module _ {b : Bounds} {arities : List ℕ} {n : ℕ} (worded : Worded b arities n) where
-  pub bindings-determine : {xs ys : List Named} {vs ws : List ℕ} → All (Bound arities n) xs → All (Bound arities n) ys → length xs ≡ length ys
+  pub bindings-determine : {xs ys : List Binding} {vs ws : List ℕ} → All (Bound arities n) xs → All (Bound arities n) ys → length xs ≡ length ys
       → binding-words b xs ++ vs ≡ binding-words b ys ++ ws → (xs ≡ ys) × (vs ≡ ws)
   unfolding binding-words
   bindings-determine none none h e = (refl, e)

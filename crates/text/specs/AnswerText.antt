@@ -2,20 +2,20 @@
 use Prim.Native.Nat.{ℕ}
 use mathlib.Core.List.{List, [], _∷_, _++_}
 use lib.ListN.{length}
-use Rattle.terms.specs.Answers.{Named}
+use Rattle.terms.specs.Answers.{Binding}
 use Rattle.text.specs.Keys.{edition-key, end-key, visited-key, answers-key, bindings-key, unknown-key, value-key}
 use Rattle.text.specs.Text.{decimal, text, line}
 
-unfoldable pub binding-lines : List Named → List ℕ
+unfoldable pub binding-lines : List Binding → List ℕ
 binding-lines [] = []
 binding-lines (b ∷ bs) = line unknown-key (decimal (b .name)) ++ (line value-key (text (b .value)) ++ binding-lines bs)
 
-unfoldable pub answer-lines : List (List Named) → List ℕ
+unfoldable pub answer-lines : List (List Binding) → List ℕ
 answer-lines [] = []
 answer-lines (l ∷ ls) = line bindings-key (decimal (length l)) ++ (binding-lines l ++ answer-lines ls)
 
 -- the end's word, the nodes visited, and the answers
-unfoldable pub list-text : List ℕ → ℕ → List (List Named) → List ℕ
+unfoldable pub list-text : List ℕ → ℕ → List (List Binding) → List ℕ
 list-text end visited answers =
     line edition-key (decimal 1)
     ++ (line end-key end

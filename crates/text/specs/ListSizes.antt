@@ -3,7 +3,7 @@ use Prim.Native.Nat.{ℕ, _+_, _*_, _≤_, _<_}
 use native.Mathlib.Omega.{arith}
 use mathlib.Core.List.{List, [], _∷_, _++_}
 use lib.ListN.{length, length-append}
-use Rattle.terms.specs.Answers.{Named, binding-words, answer-words, listed}
+use Rattle.terms.specs.Answers.{Binding, binding-words, answer-words, listed}
 use Rattle.terms.specs.Bounds.{Bounds}
 use Rattle.terms.specs.Flat.{length-words, size-positive}
 use Rattle.terms.specs.Listing.{Bound, list-words}
@@ -23,7 +23,7 @@ abbrev pub LIST-BYTES : ℕ
 LIST-BYTES = 65536
 
 module _ (b : Bounds) {arities : List ℕ} {n : ℕ} (short : Short arities n) where
-  bindings-length : (xs : List Named) → All (Bound arities n) xs → (length (binding-lines xs) ≤ 14 * length (binding-words b xs)) × (length xs ≤ length (binding-words b xs))
+  bindings-length : (xs : List Binding) → All (Bound arities n) xs → (length (binding-lines xs) ≤ 14 * length (binding-words b xs)) × (length xs ≤ length (binding-words b xs))
   unfolding binding-lines binding-words
   bindings-length [] fs = (omega arith, omega arith)
   bindings-length (x ∷ xs) (both f fs) =
@@ -46,7 +46,7 @@ module _ (b : Bounds) {arities : List ℕ} {n : ℕ} (short : Short arities n) w
         omega arith,
       )
 
-  answers-length : (l : List (List Named)) → All (All (Bound arities n)) l → length (list-words b l) ≤ LIST-WORDS
+  answers-length : (l : List (List Binding)) → All (All (Bound arities n)) l → length (list-words b l) ≤ LIST-WORDS
       → (length (answer-lines l) ≤ 14 * length (list-words b l)) × (length l ≤ length (list-words b l))
   unfolding answer-lines list-words listed answer-words
   answers-length [] fs h = (omega arith, omega arith)
@@ -66,7 +66,7 @@ module _ (b : Bounds) {arities : List ℕ} {n : ℕ} (short : Short arities n) w
       )
 
   -- the program's buffer for the list's text
-  pub list-length : (end : List ℕ) (visited : ℕ) (l : List (List Named)) → All (All (Bound arities n)) l → length (list-words b l) ≤ LIST-WORDS → length end ≤ 5 → visited ≤ 1000000000
+  pub list-length : (end : List ℕ) (visited : ℕ) (l : List (List Binding)) → All (All (Bound arities n)) l → length (list-words b l) ≤ LIST-WORDS → length end ≤ 5 → visited ≤ 1000000000
       → length (list-text end visited l) < LIST-BYTES
   unfolding list-text
   list-length end visited l fs h e v =

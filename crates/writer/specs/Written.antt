@@ -8,7 +8,7 @@ use Rattle.search.specs.Ends.{end-of, end-word}
 use Rattle.search.specs.RunLimits.{most-steps}
 use Rattle.search.specs.declared.ends.Listed.{Listed}
 use Rattle.search.specs.declared.ends.Listed.the-variants.{As, Nowhere}
-use Rattle.terms.specs.Answers.{Named}
+use Rattle.terms.specs.Answers.{Binding}
 use Rattle.terms.specs.Bounds.{Bounds}
 use Rattle.checks.specs.Check.{refused, above, check-question, check-answers}
 use Rattle.terms.specs.Formed.{Question, sides}
@@ -59,7 +59,7 @@ question-written b unknowns arities equations words room =
 
 -- ---- an answer list: its end by number and its visited number are tested first
 
-unfoldable pub too-deep-in-list : Bounds → List (List Named) → First
+unfoldable pub too-deep-in-list : Bounds → List (List Binding) → First
 too-deep-in-list b answers = first-above (b .nesting) 0 (list-depths answers)
 
 -- an end that the table hasn't, or a visited number above the most steps, is 3 with place 0
@@ -68,7 +68,7 @@ check-list b Nowhere visited arities answers words = refused Limit 0
 check-list b (As end) visited arities answers words = above (ltb most-steps visited) 0 (check-answers b arities answers words)
 
 -- the text, where the table has the end
-unfoldable pub text-of-list : Listed → ℕ → List (List Named) → List ℕ
+unfoldable pub text-of-list : Listed → ℕ → List (List Binding) → List ℕ
 text-of-list Nowhere visited answers = []
 text-of-list (As end) visited answers = list-text (end-word end) visited answers
 

@@ -6,14 +6,14 @@ use Rattle.terms.specs.Bounds.{Bounds}
 use Rattle.terms.specs.Kind.{Worded}
 use Rattle.terms.specs.Lists.{All}
 use Rattle.terms.specs.Formed.{Question}
-use Rattle.terms.specs.Answers.{Named, binding-words, answer-words}
+use Rattle.terms.specs.Answers.{Binding, binding-words, answer-words}
 use Rattle.terms.specs.Listing.{Bound, bindings-determine}
 use Rattle.laws.specs.Laws.{_≈_}
 use Rattle.laws.specs.Values.{Values, value}
 use Rattle.answers.specs.Fits.{States, Meets}
 
 module _ {b : Bounds} {arities : List ℕ} {n : ℕ} (worded : Worded b arities n) where
-  answer-determined : {ms ns : List Named} → All (Bound arities n) ms → All (Bound arities n) ns → answer-words b ms ≡ answer-words b ns → ms ≡ ns
+  answer-determined : {ms ns : List Binding} → All (Bound arities n) ms → All (Bound arities n) ns → answer-words b ms ≡ answer-words b ns → ms ≡ ns
   unfolding answer-words
   answer-determined {ms} {ns} f g e =
       bindings-determine worded f g (head-eq-of-cons-eq e) (append-nil (binding-words b ms) ∙ tail-eq-of-cons-eq e ∙ sym (append-nil (binding-words b ns))) .0

@@ -11,13 +11,13 @@ use Rattle.terms.specs.Bounds.{Bounds}
 use Rattle.terms.specs.Kind.{Worded}
 use Rattle.terms.specs.Lists.{All, Any, none, both, here, there, cases, All-map, All-both, All-of-flatMap, Any-with, Any-of-flatMap}
 use Rattle.terms.specs.Formed.{Formed, Equation, Question, sides}
-use Rattle.terms.specs.Answers.{Named, answer-words}
+use Rattle.terms.specs.Answers.{Binding, answer-words}
 use Rattle.terms.specs.Listing.{Bound}
 use Rattle.laws.specs.Values.{Values, Solves}
-use Rattle.search.specs.State.{State, Node, dead, live}
+use Rattle.search.specs.State.{State, Node, dead, live, Entry}
 use Rattle.search.specs.Children.{children}
 use Rattle.search.specs.Run.{Visit, answer-by, visit, dead-visit, visits, root, found}
-use Rattle.answers.specs.Steps.Meaning.{HoldsNamed, MeetsNode, meets-live, of-live, of-dead}
+use Rattle.answers.specs.Steps.Meaning.{HoldsEntry, HoldsBinding, MeetsNode, meets-live, of-live, of-dead}
 use Rattle.answers.specs.Steps.Kept.{FormedEquation, Kept, KeptNode, kept-live, kept-children, bound-wider}
 use Rattle.answers.specs.Steps.Sound.{sound-children}
 use Rattle.answers.specs.Steps.Renewing.{Reaches}
@@ -36,14 +36,14 @@ module _ (b : Bounds) (q : Question) where
   Leads node = (σ : Values) → MeetsNode σ node → Solves σ (q .equations)
 
   -- an answer with few enough unknowns states its bindings
-  states : {n : ℕ} (bs : List Named) → n ≤ b .path-unknowns → All (Bound (q .arities) n) bs → States b q (answer-words b bs)
+  states : {n : ℕ} (bs : List Binding) → n ≤ b .path-unknowns → All (Bound (q .arities) n) bs → States b q (answer-words b bs)
   states bs l f = record { bindings = bs; formed = All-map (bound-wider l) f; words = refl }
 
   -- ---- every answer true
 
   module _ (worded : Worded b (q .arities) (b .path-unknowns)) where
-    answer-true : {n : ℕ} (es : List Equation) (ns bs : List Named) → n ≤ b .path-unknowns → All (Bound (q .arities) n) bs
-        → ((σ : Values) → Solves σ es → All (HoldsNamed σ) ns → All (HoldsNamed σ) bs → Solves σ (q .equations)) → All IsTrue (found b (answer-by es ns bs))
+    answer-true : {n : ℕ} (es : List Equation) (ns : List Entry) (bs : List Binding) → n ≤ b .path-unknowns → All (Bound (q .arities) n) bs
+        → ((σ : Values) → Solves σ es → All (HoldsEntry σ) ns → All (HoldsBinding σ) bs → Solves σ (q .equations)) → All IsTrue (found b (answer-by es ns bs))
     unfolding answer-by found states
     answer-true [] [] bs l f h = let s = states bs l f in both (s, λ σ m. h σ none none (meets-stated worded s m)) none
     answer-true [] (n ∷ ns) bs l f h = none

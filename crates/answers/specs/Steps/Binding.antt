@@ -10,19 +10,18 @@ use borrow.Author.Tests.{eqb-true}
 use Rattle.terms.specs.Lists.{All, none, both, cases, All-map, All-append, All-front, All-back, All-of-map}
 use Rattle.terms.specs.Term.{Term, unknown, occurs, subst, kernel}
 use Rattle.terms.specs.Formed.{Equation}
-use Rattle.terms.specs.Answers.{Named}
 use Rattle.laws.specs.Laws.{_≈_, ≈sym, ≈trans}
 use Rattle.laws.specs.Values.{Values, value, Holds}
 use Rattle.laws.specs.ValuesPut.{value-bound}
 use Rattle.laws.specs.Rank.{occurs-inside, occurs-cases, not-inside-itself}
-use Rattle.search.specs.State.{State, Node, dead, live}
+use Rattle.search.specs.State.{State, Node, dead, live, Entry}
 use Rattle.search.specs.Children.{replace-in, entries, others, released, kept, bound-state, bound, then-bound}
 use Rattle.search.specs.PileEntries.{All-entries, All-others}
 use Rattle.terms.specs.Lists.{All-first, All-unmap}
-use Rattle.answers.specs.Steps.Meaning.{HoldsNamed, MeetsState, MeetsNode, meets-live}
+use Rattle.answers.specs.Steps.Meaning.{HoldsEntry, MeetsState, MeetsNode, meets-live}
 
 -- what all entries of x have and all others have, the whole pile has
-pub of-the-pile : {P : Named → Type 0} (x : ℕ) (ns : List Named) → All (λ n. n .name ≡ x → P n) (entries x ns) → All P (others x ns) → All P ns
+pub of-the-pile : {P : Entry → Type 0} (x : ℕ) (ns : List Entry) → All (λ n. n .name ≡ x → P n) (entries x ns) → All P (others x ns) → All P ns
 unfolding entries others
 of-the-pile x [] h k = none
 of-the-pile {P} x (n ∷ ns) h k = go (eqb (n .name) x) refl (λ ps qs. of-the-pile x ns ps qs) h k
@@ -46,21 +45,21 @@ module _ (σ : Values) (x : ℕ) (t : Term) where
     unfolding replace-in
     equation-after e k = ≈trans (replaced (e .left)) (≈trans k (≈sym (replaced (e .right))))
 
-    entry-before : (n : Named) → n .name ≡ x → Holds σ (released x t n) → HoldsNamed σ n
+    entry-before : (n : Entry) → n .name ≡ x → Holds σ (released x t n) → HoldsEntry σ n
     unfolding released
-    entry-before n e k = rw e (≈trans h (≈trans k (replaced (n .value))))
+    entry-before n e k = rw e (≈trans h (≈trans k (replaced (n .term))))
 
-    entry-after : (n : Named) → (n .name ≡ x) × HoldsNamed σ n → Holds σ (released x t n)
+    entry-after : (n : Entry) → (n .name ≡ x) × HoldsEntry σ n → Holds σ (released x t n)
     unfolding released
-    entry-after n p = ≈trans (≈sym h) (≈trans (rw (p .0) at (p .1)) (≈sym (replaced (n .value))))
+    entry-after n p = ≈trans (≈sym h) (≈trans (rw (p .0) at (p .1)) (≈sym (replaced (n .term))))
 
-    other-before : (n : Named) → HoldsNamed σ (kept x t n) → HoldsNamed σ n
+    other-before : (n : Entry) → HoldsEntry σ (kept x t n) → HoldsEntry σ n
     unfolding kept
-    other-before n k = ≈trans k (replaced (n .value))
+    other-before n k = ≈trans k (replaced (n .term))
 
-    other-after : (n : Named) → HoldsNamed σ n → HoldsNamed σ (kept x t n)
+    other-after : (n : Entry) → HoldsEntry σ n → HoldsEntry σ (kept x t n)
     unfolding kept
-    other-after n k = ≈trans k (≈sym (replaced (n .value)))
+    other-after n k = ≈trans k (≈sym (replaced (n .term)))
 
     bound-after : (st : State) → MeetsState σ st → MeetsState σ (bound-state x t st)
     unfolding bound-state

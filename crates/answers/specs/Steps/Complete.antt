@@ -8,7 +8,6 @@ use Rattle.terms.specs.Term.{Term, Terms, unknown, more, kernel, over, list}
 use Rattle.terms.specs.Term as term
 use Rattle.terms.specs.Shape.{arguments}
 use Rattle.terms.specs.Formed.{Formed, Equation}
-use Rattle.terms.specs.Answers.{Named}
 use Rattle.terms.specs.Listing.{Bound}
 use Rattle.laws.specs.Laws.{_≈_, _≈*_, ≈sym, ≈more}
 use Rattle.laws.specs.Values.{Values, value, value*, given, GroundValues, Solves}
@@ -16,19 +15,19 @@ use Rattle.laws.specs.Apart.{functor-parts}
 use Rattle.laws.specs.Members.{absorbed}
 use Rattle.laws.specs.ValuesPut.{value-over}
 use Rattle.search.specs.declared.steps.Step.{Step}
-use Rattle.search.specs.State.{State, Node, remade, pend, renewed}
+use Rattle.search.specs.State.{State, Node, Entry, remade, pend, renewed}
 use Rattle.search.specs.Classify.{classify}
 use Rattle.search.specs.Children.{pairwise, take, joined, join, children-by, children}
 use Rattle.search.specs.StepView.{Sided, as-written, turned-round, Stepped, drops-unknown, drops-empty, binds, postpones, decomposes, splits, dead-buried, dead-functors, dead-clash, stepped, take-bind, take-postpone}
 use Rattle.search.specs.PileEntries.{All-others}
 use Rattle.terms.specs.Lists.{All-first}
-use Rattle.answers.specs.Steps.Meaning.{HoldsNamed, MeetsState, meets-live}
+use Rattle.answers.specs.Steps.Meaning.{HoldsEntry, HoldsBinding, MeetsState, meets-live}
 use Rattle.answers.specs.Steps.StateChanges.{after-added, after-piled}
 use Rattle.answers.specs.Steps.Binding.{never-dead, complete-bound}
 use Rattle.answers.specs.Steps.PileSays.{joined-members}
-use Rattle.answers.specs.Steps.Kept.{FormedEquation, Kept, Entry}
+use Rattle.answers.specs.Steps.Kept.{FormedEquation, Kept, FormedEntry}
 use Rattle.answers.specs.Steps.DeadEnds.{buried-never, clash-never}
-use Rattle.answers.specs.Steps.Renewing.{given-other, given-new, named-new, Reaches, stay, renew}
+use Rattle.answers.specs.Steps.Renewing.{given-other, given-new, line-new, Reaches, stay, renew}
 use Rattle.answers.specs.Steps.Splitting.{other-tail, new-apart, complete-split}
 
 -- the state is an answer, or the values go on to one of the nodes
@@ -63,8 +62,8 @@ module _ (σ : Values) where
     complete-take f g kept (dead-clash c) h m = absurd (clash-never σ c h)
 
     -- the new unknown takes the whole value of the unknown that is bound
-    complete-join : (e : Named) (es : List Named) (st : State) → All (Entry arities (st .next)) (e ∷ es) → All (Bound arities (st .next)) (st .bindings)
-        → All (HoldsNamed σ) (e ∷ es) → All (HoldsNamed σ) (st .bindings) → Any (Reaches table (st .next) σ) (join (e ∷ es) st)
+    complete-join : (e : Entry) (es : List Entry) (st : State) → All (FormedEntry arities (st .next)) (e ∷ es) → All (Bound arities (st .next)) (st .bindings)
+        → All (HoldsEntry σ) (e ∷ es) → All (HoldsBinding σ) (st .bindings) → Any (Reaches table (st .next) σ) (join (e ∷ es) st)
     unfolding join renewed value kernel
     complete-join e es st f g h k =
         here (renew ground (ground x)
@@ -84,13 +83,13 @@ module _ (σ : Values) where
         τ = given (st .next) (σ x) σ
 
         below : x < st .next
-        below = All-first f .formed .name
+        below = All-first f .name
 
-        pile-met : All (HoldsNamed τ) (e ∷ es)
-        pile-met = All-map (λ d p. named-new σ (st .next) (σ x) d (p .0 .formed) (p .1)) (All-both f h)
+        pile-met : All (HoldsEntry τ) (e ∷ es)
+        pile-met = All-map (λ d p. line-new σ (st .next) (σ x) (p .0 .name) (p .0 .term) (p .1)) (All-both f h)
 
-        bindings-met : All (HoldsNamed τ) (st .bindings)
-        bindings-met = All-map (λ d p. named-new σ (st .next) (σ x) d (p .0) (p .1)) (All-both g k)
+        bindings-met : All (HoldsBinding τ) (st .bindings)
+        bindings-met = All-map (λ d p. line-new σ (st .next) (σ x) (p .0 .name) (p .0 .value) (p .1)) (All-both g k)
 
         new-same : τ (st .next) ≡ τ x
         new-same = given-new (st .next) (σ x) σ ∙ sym (given-other (st .next) (σ x) σ x below)
@@ -103,7 +102,7 @@ module _ (σ : Values) where
     unfolding children-by pend
     complete-by [] st kept m = go (st .pile) (kept .pile) (m .pile)
       where
-        go : (ns : List Named) → All (Entry arities (st .next)) ns → All (HoldsNamed σ) ns → Onward table σ (remade [] ns (st .next) st) (join ns st)
+        go : (ns : List Entry) → All (FormedEntry arities (st .next)) ns → All (HoldsEntry σ) ns → Onward table σ (remade [] ns (st .next) st) (join ns st)
         go [] f h = answered refl refl
         go (e ∷ es) f h = onward (complete-join e es st f (kept .bindings) h (m .bindings))
     complete-by (e ∷ es) st kept m = go (kept .pending) (m .pending)

@@ -12,13 +12,13 @@ use Rattle.terms.specs.Term.{Term, unknown, with, occurs, kernel, over}
 use Rattle.terms.specs.Shape.{number, arguments}
 use Rattle.terms.specs.Formed.{Formed, formed-unknown, formed-functor, Equation}
 use Rattle.terms.specs.Substitution.{formed-wider, formed-subst}
-use Rattle.terms.specs.Answers.{Named}
+use Rattle.terms.specs.Answers.{Binding}
 use Rattle.terms.specs.Listing.{Bound}
 use Rattle.terms.specs.FormedParts.{formed-members, formed-kernel, formed-over, formed-list, unknown-below}
 use Rattle.laws.specs.Members.{kernel-over}
 use Rattle.search.specs.declared.steps.Tails.{Tails}
 use Rattle.search.specs.declared.steps.Step.{Step}
-use Rattle.search.specs.State.{State, Node, dead, live, pend, piled, renewed}
+use Rattle.search.specs.State.{State, Node, dead, live, Entry, pend, piled, renewed}
 use Rattle.search.specs.Children.{replace-in, released, kept, bound-state, bound, then-bound, Pick, new-equations, pile-up, settle, pairwise, take, joined, without, join, children-by, children}
 use Rattle.search.specs.StepView.{Tailed, neither, left, right, different, same, Sided, Stepped, drops-unknown, drops-empty, binds, postpones, decomposes, splits, dead-buried, dead-functors, dead-clash, stepped, sided-name, sided-term, take-bind, take-postpone}
 use Rattle.search.specs.PileEntries.{All-entries, All-others}
@@ -31,15 +31,16 @@ pub record FormedEquation (arities : List ℕ) (n : ℕ) (e : Equation) : Type 0
   pub right : Formed arities n (e .right)
 
 -- an entry of the pile
-pub record Entry (arities : List ℕ) (n : ℕ) (x : Named) : Type 0 where
-  pub formed : Bound arities n x
-  pub tail : kernel (x .value) ≡ unknown (x .name)
+pub record FormedEntry (arities : List ℕ) (n : ℕ) (x : Entry) : Type 0 where
+  pub name : x .name < n
+  pub term : Formed arities n (x .term)
+  pub tail : kernel (x .term) ≡ unknown (x .name)
 
 -- the first n unknowns are in use
 pub record Kept (arities : List ℕ) (n : ℕ) (st : State) : Type 0 where
   pub in-use : n ≤ st .next
   pub pending : All (FormedEquation arities (st .next)) (st .pending)
-  pub pile : All (Entry arities (st .next)) (st .pile)
+  pub pile : All (FormedEntry arities (st .next)) (st .pile)
   pub bindings : All (Bound arities (st .next)) (st .bindings)
 
 pub data KeptNode (arities : List ℕ) (n : ℕ) : Node → Type 0 where
@@ -50,7 +51,7 @@ above : {i n : ℕ} → i < n → i < suc n
 above h = omega arith
 
 module _ {arities : List ℕ} where
-  pub bound-wider : {n m : ℕ} → n ≤ m → (x : Named) → Bound arities n x → Bound arities m x
+  pub bound-wider : {n m : ℕ} → n ≤ m → (x : Binding) → Bound arities n x → Bound arities m x
   bound-wider h x f = record { name = omega arith; value = formed-wider h (f .value) }
 
   -- members over a new unknown
@@ -66,7 +67,7 @@ module _ {arities : List ℕ} where
   kept-piled : {n x : ℕ} {t : Term} {st : State} → x < st .next → Formed arities (st .next) t → kernel t ≡ unknown x → Kept arities n st → Kept arities n (piled x t st)
   unfolding piled
   kept-piled l f e k =
-      record { in-use = k .in-use; pending = k .pending; pile = All-append (k .pile) (both (record { formed = record { name = l; value = f }; tail = e }) none); bindings = k .bindings }
+      record { in-use = k .in-use; pending = k .pending; pile = All-append (k .pile) (both (record { name = l; term = f; tail = e }) none); bindings = k .bindings }
 
   kept-renewed : {n : ℕ} {st : State} → Kept arities n st → Kept arities (suc (st .next)) (renewed st)
   unfolding renewed
@@ -75,7 +76,7 @@ module _ {arities : List ℕ} where
       record {
         in-use = le-refl (suc (st .next));
         pending = All-map (λ e f. record { left = formed-wider h (f .left); right = formed-wider h (f .right) }) (k .pending);
-        pile = All-map (λ x f. record { formed = bound-wider h x (f .formed); tail = f .tail }) (k .pile);
+        pile = All-map (λ x f. record { name = omega arith; term = formed-wider h (f .term); tail = f .tail }) (k .pile);
         bindings = All-map (bound-wider h) (k .bindings);
       }
 
@@ -85,10 +86,10 @@ module _ {arities : List ℕ} where
 
   -- ---- a binding
 
-  kept-entry : {n : ℕ} (x : ℕ) {t : Term} → Formed arities n t → (e : Named) → eqb (e .name) x ≡ false → Entry arities n e → Entry arities n (kept x t e)
+  kept-entry : {n : ℕ} (x : ℕ) {t : Term} → Formed arities n t → (e : Entry) → eqb (e .name) x ≡ false → FormedEntry arities n e → FormedEntry arities n (kept x t e)
   unfolding kept
   kept-entry x {t} f e ne k =
-      record { formed = record { name = k .formed .name; value = formed-subst x t f (k .formed .value) }; tail = kernel-subst x t (e .value) ne (k .tail) }
+      record { name = k .name; term = formed-subst x t f (k .term); tail = kernel-subst x t (e .term) ne (k .tail) }
 
   kept-bound-state : {n x : ℕ} {t : Term} {st : State} → x < st .next → Formed arities (st .next) t → Kept arities n st → Kept arities n (bound-state x t st)
   unfolding bound-state replace-in released kept
@@ -96,7 +97,7 @@ module _ {arities : List ℕ} where
       record {
         in-use = k .in-use;
         pending = All-append (All-of-map (replace-in x t) (λ e g. record { left = formed-subst x t f (g .left); right = formed-subst x t f (g .right) }) (k .pending))
-            (All-of-map (released x t) (λ n p. record { left = f; right = formed-subst x t f (p .1 .formed .value) }) (All-entries x (k .pile)));
+            (All-of-map (released x t) (λ n p. record { left = f; right = formed-subst x t f (p .1 .term) }) (All-entries x (k .pile)));
         pile = All-of-map (kept x t) (λ n p. kept-entry x f n (ne-eqb (n .name) x (p .0)) (p .1)) (All-others x (k .pile));
         bindings = All-append (k .bindings) (both (record { name = l; value = f }) none);
       }
@@ -176,17 +177,17 @@ module _ {arities : List ℕ} where
   kept-take f g (dead-functors d) h = both kept-dead none
   kept-take f g (dead-clash c) h = both kept-dead none
 
-  kept-join : {n : ℕ} (ns : List Named) (st : State) → All (Entry arities (st .next)) ns → Kept arities n st → All (KeptNode arities n) (join ns st)
+  kept-join : {n : ℕ} (ns : List Entry) (st : State) → All (FormedEntry arities (st .next)) ns → Kept arities n st → All (KeptNode arities n) (join ns st)
   unfolding join renewed joined
   kept-join [] st f k = none
   kept-join {n = n} (e ∷ es) st (both f fs) k =
-      both (kept-weaken {m = suc (st .next)} (omega arith) (kept-bound (above (f .formed .name)) (over-new joined-formed) (kept-renewed rest))) none
+      both (kept-weaken {m = suc (st .next)} (omega arith) (kept-bound (above (f .name)) (over-new joined-formed) (kept-renewed rest))) none
     where
       rest : Kept arities n (without (e .name) (e ∷ es) st)
       rest = record { in-use = k .in-use; pending = none; pile = All-map (λ x p. p .1) (All-others (e .name) (both f fs)); bindings = k .bindings }
 
       joined-formed : All (Formed arities (st .next)) (joined (e .name) (e ∷ es))
-      joined-formed = All-of-flatMap _ (λ x p. formed-members (p .1 .formed .value)) (All-entries (e .name) (both f fs))
+      joined-formed = All-of-flatMap _ (λ x p. formed-members (p .1 .term)) (All-entries (e .name) (both f fs))
 
   kept-by : {n : ℕ} (es : List Equation) (st : State) → All (FormedEquation arities (st .next)) es → Kept arities n st → All (KeptNode arities n) (children-by es st)
   unfolding children-by pend

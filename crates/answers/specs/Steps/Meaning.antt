@@ -4,21 +4,24 @@ use mathlib.Core.Path.{_≡_, ap, sym, _∙_}
 use mathlib.Core.List.{List, map}
 use Rattle.terms.specs.Lists.{All}
 use Rattle.terms.specs.Term.{Term, members, kernel, over}
-use Rattle.terms.specs.Answers.{Named}
+use Rattle.terms.specs.Answers.{Binding}
 use Rattle.laws.specs.Laws.{_≈_}
 use Rattle.laws.specs.Values.{Values, value, Solves}
 use Rattle.laws.specs.Members.{rebuild}
 use Rattle.laws.specs.ValuesPut.{value-over}
-use Rattle.search.specs.State.{State, Node, dead, live}
+use Rattle.search.specs.State.{State, Node, dead, live, Entry}
 
--- a binding or an entry of the pile: the unknown's value equals the term's
-abbrev pub HoldsNamed : Values → Named → Type 0
-HoldsNamed σ n = σ (n .name) ≈ value σ (n .value)
+-- an entry of the pile or a binding: the unknown's value equals the term's
+abbrev pub HoldsEntry : Values → Entry → Type 0
+HoldsEntry σ n = σ (n .name) ≈ value σ (n .term)
+
+abbrev pub HoldsBinding : Values → Binding → Type 0
+HoldsBinding σ n = σ (n .name) ≈ value σ (n .value)
 
 pub record MeetsState (σ : Values) (st : State) : Type 0 where
   pub pending : Solves σ (st .pending)
-  pub pile : All (HoldsNamed σ) (st .pile)
-  pub bindings : All (HoldsNamed σ) (st .bindings)
+  pub pile : All (HoldsEntry σ) (st .pile)
+  pub bindings : All (HoldsBinding σ) (st .bindings)
 
 pub data MeetsNode (σ : Values) : Node → Type 0 where
   meets-live : {st : State} → MeetsState σ st → MeetsNode σ (live st)

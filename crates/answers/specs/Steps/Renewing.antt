@@ -8,15 +8,13 @@ use native.Mathlib.Omega.{arith}
 use Rattle.terms.specs.Lists.{All-map, All-both}
 use Rattle.terms.specs.Term.{Term}
 use Rattle.terms.specs.Formed.{Formed, Ground, Equation}
-use Rattle.terms.specs.Answers.{Named}
-use Rattle.terms.specs.Listing.{Bound}
 use Rattle.terms.specs.Substitution.{absent-above}
 use Rattle.laws.specs.Laws.{_≈_, ≈sym, ≈trans}
 use Rattle.laws.specs.Values.{Values, value, given, GroundValues, Holds}
 use Rattle.laws.specs.ValuesPut.{value-given}
 use Rattle.laws.specs.Solving.{ground-given}
 use Rattle.search.specs.State.{State, Node}
-use Rattle.answers.specs.Steps.Meaning.{HoldsNamed, MeetsState, MeetsNode}
+use Rattle.answers.specs.Steps.Meaning.{MeetsState, MeetsNode}
 use Rattle.answers.specs.Steps.Kept.{FormedEquation, Kept}
 
 pub given-other : (x : ℕ) (v : Term) (σ : Values) (i : ℕ) → i < x → given x v σ i ≡ σ i
@@ -35,15 +33,16 @@ module _ {arities : List ℕ} (σ : Values) (n : ℕ) (v : Term) where
   pub holds-new : (e : Equation) → FormedEquation arities n e → Holds σ e → Holds (given n v σ) e
   holds-new e f h = ≈trans (value-new (f .left)) (≈trans h (≈sym (value-new (f .right))))
 
-  pub named-new : (e : Named) → Bound arities n e → HoldsNamed σ e → HoldsNamed (given n v σ) e
-  named-new e f h = rw (given-other n v σ (e .name) (f .name)) (≈trans h (≈sym (value-new (f .value))))
+  -- an entry or a binding
+  pub line-new : {x : ℕ} {t : Term} → x < n → Formed arities n t → σ x ≈ value σ t → given n v σ x ≈ value (given n v σ) t
+  line-new {x} l f h = rw (given-other n v σ x l) (≈trans h (≈sym (value-new f)))
 
 pub meets-new : {arities : List ℕ} {n : ℕ} (σ : Values) (v : Term) {st : State} → Kept arities n st → MeetsState σ st → MeetsState (given (st .next) v σ) st
 meets-new σ v {st} k m =
     record {
       pending = All-map (λ e p. holds-new σ (st .next) v e (p .0) (p .1)) (All-both (k .pending) (m .pending));
-      pile = All-map (λ e p. named-new σ (st .next) v e (p .0 .formed) (p .1)) (All-both (k .pile) (m .pile));
-      bindings = All-map (λ e p. named-new σ (st .next) v e (p .0) (p .1)) (All-both (k .bindings) (m .bindings));
+      pile = All-map (λ e p. line-new σ (st .next) v (p .0 .name) (p .0 .term) (p .1)) (All-both (k .pile) (m .pile));
+      bindings = All-map (λ e p. line-new σ (st .next) v (p .0 .name) (p .0 .value) (p .1)) (All-both (k .bindings) (m .bindings));
     }
 
 -- values that meet a node and are σ's on the first n unknowns, ground over the same table

@@ -11,7 +11,6 @@ use Rattle.terms.specs.Term.{Term, Terms, unknown, with, more, members, kernel,
 use Rattle.terms.specs.Term as term
 use Rattle.terms.specs.Shape.{is-unknown, number, arguments}
 use Rattle.terms.specs.Formed.{Formed, formed-functor, Equation}
-use Rattle.terms.specs.Answers.{Named}
 use Rattle.laws.specs.Laws.{_≈_, _≈*_, ≈refl, ≈sym, ≈trans, ≈functor, ≈none, ≈more, In, Within}
 use Rattle.laws.specs.Values.{Values, value, value*, Solves}
 use Rattle.laws.specs.Members.{within-self}
@@ -19,16 +18,16 @@ use Rattle.laws.specs.ValuesPut.{value-bound}
 use Rattle.laws.specs.Tails.{sound-different, sound-same}
 use Rattle.search.specs.declared.steps.Tails.{Tails}
 use Rattle.search.specs.declared.steps.Step.{Step}
-use Rattle.search.specs.State.{State, Node, pend, renewed}
+use Rattle.search.specs.State.{State, Node, Entry, pend, renewed}
 use Rattle.search.specs.Children.{bound, Pick, new-equations, joining, settle, split, pairwise, take, joined, without, join, children-by, children}
 use Rattle.search.specs.StepView.{Tailed, neither, left, right, different, same, Sided, as-written, turned-round, Stepped, drops-unknown, drops-empty, binds, postpones, decomposes, splits, dead-buried, dead-functors, dead-clash, stepped, take-bind, take-postpone}
 use Rattle.terms.specs.Lists.{All-unmap}
-use Rattle.answers.specs.Steps.Meaning.{HoldsNamed, MeetsState, MeetsNode, meets-live, of-live, of-dead, written, over-values}
+use Rattle.answers.specs.Steps.Meaning.{HoldsEntry, HoldsBinding, MeetsState, MeetsNode, meets-live, of-live, of-dead, written, over-values}
 use Rattle.answers.specs.Steps.StateChanges.{before-added, before-piled, before-renewed, before-pile-up}
 use Rattle.answers.specs.Steps.Binding.{of-the-pile, sound-bound, sound-then-bound}
 use Rattle.answers.specs.Steps.Picks.{Chosen, Picks, t-first, t-second, split-all, sound-each, joining-all, no-tail}
 use Rattle.answers.specs.Steps.PileSays.{has-members, entries-met}
-use Rattle.answers.specs.Steps.Kept.{FormedEquation, Kept, Entry}
+use Rattle.answers.specs.Steps.Kept.{FormedEquation, Kept, FormedEntry}
 
 -- T and U, picked among the members ts and us, and what the picks say where their equations es hold
 record Choice (σ : Values) (ts us T U : List Term) (es : List Equation) : Type 0 where
@@ -123,8 +122,8 @@ module _ (σ : Values) where
   sound-take f g (dead-clash c) = both of-dead none
 
   -- nothing pending: the entries of one unknown are joined
-  sound-join : {arities : List ℕ} {n : ℕ} (ns : List Named) (st : State) → All (Entry arities n) ns
-      → All (λ node. MeetsNode σ node → All (HoldsNamed σ) ns × All (HoldsNamed σ) (st .bindings)) (join ns st)
+  sound-join : {arities : List ℕ} {n : ℕ} (ns : List Entry) (st : State) → All (FormedEntry arities n) ns
+      → All (λ node. MeetsNode σ node → All (HoldsEntry σ) ns × All (HoldsBinding σ) (st .bindings)) (join ns st)
   unfolding join renewed
   sound-join [] st f = none
   sound-join (e ∷ es) st f = both go none
@@ -139,13 +138,13 @@ module _ (σ : Values) where
       N = unknown (st .next)
 
       go : MeetsNode σ (bound x (over ms N) (renewed (without x (e ∷ es) st)))
-          → All (HoldsNamed σ) (e ∷ es) × All (HoldsNamed σ) (st .bindings)
+          → All (HoldsEntry σ) (e ∷ es) × All (HoldsBinding σ) (st .bindings)
       go m =
           let p = sound-bound σ x (over ms N) _ m in
           let inside : Within (map (value σ) ms) (members (σ x)) = has-members (map (value σ) ms) (value σ N) (over-values σ ms N (p .0)) in
           (of-the-pile x (e ∷ es) (entries-met σ x f inside) (p .1 .pile), p .1 .bindings)
 
-  sound-by : {arities : List ℕ} {n : ℕ} (es : List Equation) (st : State) → All (FormedEquation arities n) es → All (Entry arities n) (st .pile)
+  sound-by : {arities : List ℕ} {n : ℕ} (es : List Equation) (st : State) → All (FormedEquation arities n) es → All (FormedEntry arities n) (st .pile)
       → All (λ node. MeetsNode σ node → MeetsState σ (pend es st)) (children-by es st)
   unfolding children-by pend
   sound-by [] st f g = All-map (λ node h m. let p = h m in record { pending = none; pile = p .0; bindings = p .1 }) (sound-join (st .pile) st g)

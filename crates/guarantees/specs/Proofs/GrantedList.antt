@@ -13,7 +13,7 @@ use Rattle.room.specs.Room.{put-eq}
 use Rattle.terms.specs.Bounds.{edition-one, edition-one-proper, PATH-UNKNOWNS}
 use Rattle.terms.specs.Lists.{All, none, both, cases}
 use Rattle.terms.specs.Formed.{Question}
-use Rattle.terms.specs.Answers.{Named, answer-words, listed, listed-append}
+use Rattle.terms.specs.Answers.{Binding, answer-words, listed, listed-append}
 use Rattle.checks.specs.Check.{above}
 use Rattle.checks.specs.Lent.{Table, Answered, answered-check-answers, answers-back}
 use Rattle.terms.specs.Listing.{Bound, list-words, answers-of}
@@ -78,7 +78,7 @@ scan-within (v ∷ vs) l = go (verdict edition-one l v) refl (judged edition-one
 
 -- the bindings that each answer states, in order
 record Bindings (arities : List ℕ) (answers : List (List ℕ)) : Type 0 where
-  each : List (List Named)
+  each : List (List Binding)
   words : map (answer-words edition-one) each ≡ answers
   formed : All (All (Bound arities PATH-UNKNOWNS)) each
 

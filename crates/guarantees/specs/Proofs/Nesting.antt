@@ -12,7 +12,7 @@ use Rattle.terms.specs.Lists.{All, none, both, cases, All-append, All-front, Al
 use Rattle.terms.specs.Term.{Term, Terms, unknown, empty, with, functor, more, members, kernel, list, nesting, inside, bracketed, deepest}
 use Rattle.terms.specs.Term as term
 use Rattle.terms.specs.Formed.{Question}
-use Rattle.terms.specs.Answers.{Named}
+use Rattle.terms.specs.Answers.{Binding}
 use Rattle.word_writer.specs.Depths.{depths, rest-depths, argument-depths, further-depths, row-depths, all-within, first-at, found, first-above}
 use Rattle.lines.specs.ListLines.{binding-depths, list-depths}
 use Rattle.writer.specs.Written.{too-deep-in, too-deep-in-list}
@@ -103,27 +103,27 @@ module _ (most : ℕ) where
   row-low none = none
   row-low (both {x = t} h hs) = All-append (term-low t h) (row-low hs)
 
-  abbrev Values-nest : List Named → Type 0
+  abbrev Values-nest : List Binding → Type 0
   Values-nest bs = All (λ b. nesting (b .value) ≤ most) bs
 
-  bindings-nest : (bs : List Named) → Low (binding-depths bs) → Values-nest bs
+  bindings-nest : (bs : List Binding) → Low (binding-depths bs) → Values-nest bs
   unfolding binding-depths
   bindings-nest [] low = none
   bindings-nest (b ∷ bs) low =
       let rest = All-rest low in
       both (term-nests (b .value) (All-front (depths 0 (b .value)) _ rest)) (bindings-nest bs (All-back (depths 0 (b .value)) _ rest))
 
-  bindings-low : {bs : List Named} → Values-nest bs → Low (binding-depths bs)
+  bindings-low : {bs : List Binding} → Values-nest bs → Low (binding-depths bs)
   unfolding binding-depths
   bindings-low none = none
   bindings-low (both {x = b} h hs) = both {x = 0} (omega arith) (All-append (term-low (b .value) h) (bindings-low hs))
 
-  list-nests : (l : List (List Named)) → Low (list-depths l) → All Values-nest l
+  list-nests : (l : List (List Binding)) → Low (list-depths l) → All Values-nest l
   unfolding list-depths
   list-nests [] low = none
   list-nests (bs ∷ l) low = let rest = All-rest low in both (bindings-nest bs (All-front (binding-depths bs) _ rest)) (list-nests l (All-back (binding-depths bs) _ rest))
 
-  list-low : {l : List (List Named)} → All Values-nest l → Low (list-depths l)
+  list-low : {l : List (List Binding)} → All Values-nest l → Low (list-depths l)
   unfolding list-depths
   list-low none = none
   list-low (both h hs) = both {x = 0} (omega arith) (All-append (bindings-low h) (list-low hs))
@@ -147,7 +147,7 @@ pub question-nests : (g : Question) → (too-deep-in edition-one g ≡ all-withi
 unfolding too-deep-in edition-one
 question-nests g = (λ e. row-nests NESTING _ (within-low NESTING 0 _ e), λ h. low-within NESTING 0 (row-low NESTING h))
 
-pub answers-nest : (l : List (List Named)) → (too-deep-in-list edition-one l ≡ all-within) ↔ All (All (λ b. nesting (b .value) ≤ NESTING)) l
+pub answers-nest : (l : List (List Binding)) → (too-deep-in-list edition-one l ≡ all-within) ↔ All (All (λ b. nesting (b .value) ≤ NESTING)) l
 unfolding too-deep-in-list edition-one
 answers-nest l = (λ e. list-nests NESTING l (within-low NESTING 0 _ e), λ h. low-within NESTING 0 (list-low NESTING h))
 

@@ -6,10 +6,11 @@ use native.Mathlib.Omega.{arith}
 use Rattle.terms.specs.Bounds.{Bounds}
 use Rattle.terms.specs.Lists.{All, none as all-none, both, All-map, All-both, All-append}
 use Rattle.terms.specs.Formed.{Equation, Question}
-use Rattle.terms.specs.Answers.{Named, answer-words}
+use Rattle.terms.specs.Answers.{Binding, answer-words}
 use Rattle.search.specs.Run.{Loan, Outcome, Visit, Verdict, stops, overflows, goes-on, Answer, silent, states, answer-by, visit, dead-visit, visits, root, found, verdict, spend, after, scan, ran}
 use Rattle.promises.specs.Wording.{In-form, Answers-in-form, words-of}
 use Rattle.terms.specs.Substitution.{formed-wider}
+use Rattle.search.specs.State.{Entry}
 use Rattle.invariants.specs.Orderly.{Orderly}
 use Rattle.promises.specs.Searches.Visiting.{visits-each}
 use Rattle.promises.specs.Searches.Naming.{names-within}
@@ -18,11 +19,11 @@ use Rattle.invariants.specs.Tree.{Formed-question, orderly-children, root-order
 -- ---- what a run lists
 
 -- an answer, if there is one, that has P
-pub data Stating (P : List Named → Type 0) : Answer → Type 0 where
+pub data Stating (P : List Binding → Type 0) : Answer → Type 0 where
   stating-nothing : Stating P silent
-  stating : {bs : List Named} → P bs → Stating P (states bs)
+  stating : {bs : List Binding} → P bs → Stating P (states bs)
 
-found-each : (b : Bounds) {P : List Named → Type 0} {Q : List ℕ → Type 0} → ((bs : List Named) → P bs → Q (answer-words b bs)) → {a : Answer} → Stating P a → All Q (found b a)
+found-each : (b : Bounds) {P : List Binding → Type 0} {Q : List ℕ → Type 0} → ((bs : List Binding) → P bs → Q (answer-words b bs)) → {a : Answer} → Stating P a → All Q (found b a)
 unfolding found
 found-each b f stating-nothing = all-none
 found-each b f (stating {bs = bs} p) = both (f bs p) all-none
@@ -33,7 +34,7 @@ after-each (stops e) o h k = all-none
 after-each overflows o h k = all-none
 after-each goes-on o h k = All-append h k
 
-pub scan-each : (b : Bounds) {P : List Named → Type 0} {Q : List ℕ → Type 0} → ((bs : List Named) → P bs → Q (answer-words b bs)) → {vs : List Visit}
+pub scan-each : (b : Bounds) {P : List Binding → Type 0} {Q : List ℕ → Type 0} → ((bs : List Binding) → P bs → Q (answer-words b bs)) → {vs : List Visit}
     → All (λ v. Stating P (v .answer)) vs → (l : Loan) → All Q ((scan b l vs) .answers)
 unfolding scan
 scan-each b f all-none l = all-none
@@ -46,7 +47,7 @@ in-form-up l stating-nothing = stating-nothing
 in-form-up l (stating f) =
     stating (record { solved = f .solved; formed = All-map (λ m h. record { name = omega arith; value = formed-wider l (h .value) }) (f .formed) })
 
-answer-in-form : {arities : List ℕ} (es : List Equation) (ps bs : List Named) {n : ℕ} → In-form arities n bs → Stating (In-form arities n) (answer-by es ps bs)
+answer-in-form : {arities : List ℕ} (es : List Equation) (ps : List Entry) (bs : List Binding) {n : ℕ} → In-form arities n bs → Stating (In-form arities n) (answer-by es ps bs)
 unfolding answer-by
 answer-in-form [] [] bs f = stating f
 answer-in-form [] (p ∷ ps) bs f = stating-nothing

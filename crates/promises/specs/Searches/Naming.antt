@@ -10,15 +10,14 @@ use native.Mathlib.Omega.{arith}
 use Rattle.terms.specs.Bounds.{Bounds}
 use Rattle.terms.specs.Lists.{All, Any, none as all-none, both, any→, All-map, Any-with, Any-out}
 use Rattle.terms.specs.Formed.{Question}
-use Rattle.terms.specs.Answers.{Named}
 use Rattle.search.specs.declared.ends.End.{End}
 use Rattle.search.specs.declared.ends.End.the-variants.{Names}
-use Rattle.search.specs.State.{State, Node, live, start}
+use Rattle.search.specs.State.{State, Node, live, Entry, start}
 use Rattle.search.specs.Run.{Loan, Visit, Verdict, stops, overflows, goes-on, visit, dead-visit, visits, root, found, verdict, spend, after, scan, ran}
 use Rattle.invariants.specs.Tally.{tally-no-more, tally-most}
 use Rattle.invariants.specs.Orderly.{named, Orderly, usable-unbound}
 use Rattle.invariants.specs.Weight.{weights}
-use Rattle.invariants.specs.Falling.{unbound, waiting, Falls, ends-dead, fewer-unbound, lighter, shorter}
+use Rattle.invariants.specs.Falling.{waits, unbound, waiting, Falls, ends-dead, fewer-unbound, lighter, shorter}
 use Rattle.invariants.specs.JoinFalls.{children-fall}
 use Rattle.search.specs.Verdicts.{Judged, steps-spent, too-deep, too-many-names, too-large, judged}
 use Rattle.promises.specs.Searches.Visiting.{visits-each}
@@ -33,17 +32,17 @@ record Thrifty (arities : List ℕ) (most : ℕ) (st : State) : Type 0 where
   orderly : Orderly arities st
   budget : Budget most st
 
-named-any : (y : ℕ) (ns : List Named) → named y ns ≡ true → Any (λ m. eqb (m .name) y ≡ true) ns
-unfolding named
-named-any y ns e = any→ _ ns e
+waits-any : (y : ℕ) (ns : List Entry) → waits y ns ≡ true → Any (λ m. eqb (m .name) y ≡ true) ns
+unfolding waits
+waits-any y ns e = any→ _ ns e
 
 -- who waits in the pile is not bound
 waiting-unbound : {arities : List ℕ} (st : State) → Orderly arities st → waiting st ≤ unbound st
 unfolding waiting unbound
 waiting-unbound st o = tally-no-more (st .next) (λ y l e. ap not (go y e))
   where
-    go : (y : ℕ) → named y (st .pile) ≡ true → named y (st .bindings) ≡ false
-    go y e = Any-out (λ m h. rw (eqb-true (m .name) y (h .1)) at (usable-unbound (h .0 .name))) (Any-with (o .pile) (named-any y (st .pile) e))
+    go : (y : ℕ) → waits y (st .pile) ≡ true → named y (st .bindings) ≡ false
+    go y e = Any-out (λ m h. rw (eqb-true (m .name) y (h .1)) at (usable-unbound (h .0 .name))) (Any-with (o .pile) (waits-any y (st .pile) e))
 
 thrifty-child : {arities : List ℕ} {most : ℕ} {st : State} → Thrifty arities most st → {k : Node} → Falls arities st k → Live (Thrifty arities most) k
 unfolding weights
