@@ -16,9 +16,9 @@ use Rattle.terms.specs.Term.{Term, unknown, words, size}
 use Rattle.terms.specs.Shape.{is-unknown}
 use Rattle.terms.specs.Formed.{Equation, Formed, sides, row}
 use mathlib.Core.Bool.{true, false}
-use Rattle.terms.specs.Answers.{Named}
+use Rattle.terms.specs.Answers.{Binding}
 use Rattle.terms.specs.Flat.{size-positive, length-words}
-use Rattle.search.specs.State.{State, pend, size-equations, size-named, state-size}
+use Rattle.search.specs.State.{State, pend, size-equations, size-entries, size-bindings, state-size}
 use Rattle.search.specs.Classify.{classify}
 use Rattle.search.specs.StepView.{Sided, as-written, turned-round}
 use Rattle.search.specs.StateWords.{pending-words}
@@ -36,7 +36,7 @@ pub record Sound (arities : List ℕ) (st : State) : Type 0 where
   pub functors : length arities ≤ FUNCTORS
   pub few : st .next ≤ PATH-UNKNOWNS
   pub pending : All (Formed arities (st .next)) (sides (st .pending))
-  pub pile : All (λ n. Formed arities (st .next) (n .value)) (st .pile)
+  pub pile : All (λ n. Formed arities (st .next) (n .term)) (st .pile)
   pub names : All (λ n. n .name < st .next) (st .pile)
 
 pub sound-worded : {arities : List ℕ} {st : State} → Sound arities st → Worded edition-one arities (st .next)
@@ -59,8 +59,8 @@ pub record Held (arities l : List ℕ) (from to scratch lent : ℕ) (st : State)
   pub fits : state-size st ≤ lent
 
 -- a binding has two words at least
-pub few-bindings : (ns : List Named) → 2 * length ns ≤ size-named ns
-unfolding size-named
+pub few-bindings : (ns : List Binding) → 2 * length ns ≤ size-bindings ns
+unfolding size-bindings
 few-bindings [] = omega arith
 few-bindings (n ∷ ns) = omega (arith, few-bindings ns, size-positive (n .value))
 
@@ -76,7 +76,7 @@ module _ {arities l : List ℕ} {from to scratch lent : ℕ} {st : State} (H : H
   unfolding rest-after header-for state-size
   bind-parts {by} {m} h a =
       let s = cut-sizes (H .holds) ds es cut in
-      let f : size-equations (st .pending) + size-named (st .pile) + size-named (st .bindings) ≤ lent = H .fits in
+      let f : size-equations (st .pending) + size-entries (st .pile) + size-bindings (st .bindings) ≤ lent = H .fits in
       let r = H .rows in
       record {
         rest-within = omega arith;
@@ -92,7 +92,7 @@ module _ {arities l : List ℕ} {from to scratch lent : ℕ} {st : State} (H : H
   unfolding rest-after header-for state-size
   rest-room =
       let s = cut-sizes (H .holds) ds es cut in
-      let f : size-equations (st .pending) + size-named (st .pile) + size-named (st .bindings) ≤ lent = H .fits in
+      let f : size-equations (st .pending) + size-entries (st .pile) + size-bindings (st .bindings) ≤ lent = H .fits in
       omega (arith, H .rows .row)
 
   pub finish-parts : {by m : ℕ} → Within l by m → Apart by m to (HEADER + lent) → (written x next : ℕ) → written ≤ lent → FIRST-UNKNOWN ≤ x → next < 65536 → FinishParts l rest by m to written lent x next
@@ -103,7 +103,7 @@ module _ {arities l : List ℕ} {from to scratch lent : ℕ} {st : State} (H : H
     size-small = H .rows .lent-small;
     unknown = u;
     bindings-small =
-        let f : size-equations (st .pending) + size-named (st .pile) + size-named (st .bindings) ≤ lent = H .fits in
+        let f : size-equations (st .pending) + size-entries (st .pile) + size-bindings (st .bindings) ≤ lent = H .fits in
         omega (arith, few-bindings (st .bindings), H .rows .lent-small);
     next-small = n;
   }
@@ -167,7 +167,7 @@ module _ {l : List ℕ} {from : ℕ} {st : State} (holds : Holds edition-one l f
 module _ {arities l : List ℕ} {from to scratch lent : ℕ} {st : State} (H : Held arities l from to scratch lent st) {e : Equation} {es : List Equation} (cut : st .pending ≡ e ∷ es) where
   pub sides-within : from + HEADER + (size (e .left) + size (e .right)) ≤ to
   unfolding state-size
-  sides-within = let f : size-equations (st .pending) + size-named (st .pile) + size-named (st .bindings) ≤ lent = H .fits in omega (arith, first-size st cut, H .rows .row)
+  sides-within = let f : size-equations (st .pending) + size-entries (st .pile) + size-bindings (st .bindings) ≤ lent = H .fits in omega (arith, first-size st cut, H .rows .row)
 
   -- ---- an unknown and a term
 

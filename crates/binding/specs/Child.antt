@@ -13,10 +13,10 @@ use Rattle.terms.specs.Kind.{Worded}
 use Rattle.terms.specs.Lists.{All}
 use Rattle.terms.specs.Term.{Term, words}
 use Rattle.terms.specs.Formed.{Equation, Formed, row, sides}
-use Rattle.terms.specs.Answers.{Named, binding-words, pile-words}
-use Rattle.search.specs.State.{State, live, remade, noted, size-equations, size-named, state-size}
+use Rattle.terms.specs.Answers.{binding-words}
+use Rattle.search.specs.State.{State, live, Entry, remade, noted, size-equations, size-entries, size-bindings, state-size}
 use Rattle.search.specs.Children.{replace-in, entries, others, released, kept, bound-state}
-use Rattle.search.specs.StateWords.{pending-words, state-words, length-pending, length-pile, length-bindings}
+use Rattle.search.specs.StateWords.{pending-words, pile-words, state-words, length-pending, length-pile, length-bindings}
 use Rattle.rows.specs.declared.parts.Rest.{Rest}
 use Rattle.rows.specs.declared.parts.Made.{Made}
 use Rattle.rows.specs.declared.parts.Part.the-variants.{Entries, Others}
@@ -37,7 +37,7 @@ pub record Stands (l : List ℕ) (by m : ℕ) (t : Term) : Type 0 where
   pub stands : seg l by m ≡ words edition-one t
 
 module _ {arities : List ℕ} {k : ℕ} (worded : Worded edition-one arities k) {r₀ : List ℕ} {rest : Rest} {st : State} (R : Rested edition-one r₀ rest st)
-    (formed : All (λ n. Formed arities k (n .value)) (st .pile)) {by m : ℕ} {t : Term} (value : Stands r₀ by m t) {x : ℕ} (h : x < FIRST-UNKNOWN) where
+    (formed : All (λ n. Formed arities k (n .term)) (st .pile)) {by m : ℕ} {t : Term} (value : Stands r₀ by m t) {x : ℕ} (h : x < FIRST-UNKNOWN) where
   abbrev put-for : List ℕ → List ℕ
   put-for ws = replaced (FIRST-UNKNOWN + x) (words edition-one t) ws
 
@@ -96,8 +96,8 @@ module _ {arities : List ℕ} {k : ℕ} (worded : Worded edition-one arities k) 
         let B : List ℕ = binding-words edition-one (st .bindings) in
         let pending : written + length A ≡ size-equations (child .pending) =
         omega (arith, length-append N A, ap length new, length-seg r₀ (to + HEADER) written (omega (arith, P .parts .to-within, P .written-within)), ap length pending-is, length-pending edition-one (child .pending)) in
-        let pile : length (pile-piece edition-one arities r₀ rest (FIRST-UNKNOWN + x) by m) ≡ size-named (child .pile) = ap length pile-is ∙ length-pile edition-one (child .pile) in
-        let bound : rest .bound + 1 + m ≡ size-named (child .bindings) =
+        let pile : length (pile-piece edition-one arities r₀ rest (FIRST-UNKNOWN + x) by m) ≡ size-entries (child .pile) = ap length pile-is ∙ length-pile edition-one (child .pile) in
+        let bound : rest .bound + 1 + m ≡ size-bindings (child .bindings) =
         omega (
           arith,
           ap length last-piece-is,
@@ -143,8 +143,8 @@ module _ {arities : List ℕ} {k : ℕ} (worded : Worded edition-one arities k) 
     unfolding header-of bound-header header-for state-size size-equations
     heir-header =
         let B : List ℕ = binding-words edition-one (st .bindings) in
-        let pile : length (pile-piece edition-one arities r₀ rest (FIRST-UNKNOWN + x) by m) ≡ size-named (heir .pile) = ap length heir-pile ∙ length-pile edition-one (heir .pile) in
-        let bound : rest .bound + 1 + m ≡ size-named (heir .bindings) =
+        let pile : length (pile-piece edition-one arities r₀ rest (FIRST-UNKNOWN + x) by m) ≡ size-entries (heir .pile) = ap length heir-pile ∙ length-pile edition-one (heir .pile) in
+        let bound : rest .bound + 1 + m ≡ size-bindings (heir .bindings) =
         omega (
           arith,
           ap length last-piece-is,
@@ -170,14 +170,14 @@ module _ {arities : List ℕ} {k : ℕ} (worded : Worded edition-one arities k) 
 -- ---- nothing is bound
 
 -- the state with these equations before its own, these entries after its own, and this next unknown
-unfoldable pub extended : List Equation → List Named → ℕ → State → State
+unfoldable pub extended : List Equation → List Entry → ℕ → State → State
 extended ds ms next st = remade (ds ++ st .pending) (st .pile ++ ms) next st
 
 -- the m words at a place are those of entries
-pub record Piled (l : List ℕ) (by m : ℕ) (ns : List Named) : Type 0 where
+pub record Piled (l : List ℕ) (by m : ℕ) (ns : List Entry) : Type 0 where
   pub piled : seg l by m ≡ pile-words edition-one ns
 
-module _ {r₀ : List ℕ} {rest : Rest} {st : State} (R : Rested edition-one r₀ rest st) {by m : ℕ} {ms : List Named} (entry : Piled r₀ by m ms)
+module _ {r₀ : List ℕ} {rest : Rest} {st : State} (R : Rested edition-one r₀ rest st) {by m : ℕ} {ms : List Entry} (entry : Piled r₀ by m ms)
     {to written lent next : ℕ} (P : FinishParts r₀ rest by m to written lent FIRST-UNKNOWN next) (ds : List Equation) (new : seg r₀ (to + HEADER) written ≡ pending-words edition-one ds) where
   abbrev next-state : State
   next-state = extended ds ms next st
@@ -206,10 +206,10 @@ module _ {r₀ : List ℕ} {rest : Rest} {st : State} (R : Rested edition-one r�
       omega (arith, ap length (R .bound), length-seg r₀ (rest .at + rest .pending + rest .pile) (rest .bound) (omega arith)) in
       let pending : written + rest .pending ≡ size-equations (ds ++ st .pending) =
       omega (arith, ap length (pending-append edition-one ds (st .pending)), length-append (pending-words edition-one ds) (pending-words edition-one (st .pending)), length-pending edition-one (ds ++ st .pending)) in
-      let pile : rest .pile + m ≡ size-named (st .pile ++ ms) =
+      let pile : rest .pile + m ≡ size-entries (st .pile ++ ms) =
       omega (arith, ap length (pile-append edition-one (st .pile) ms), length-append (pile-words edition-one (st .pile)) (pile-words edition-one ms), length-pile edition-one (st .pile ++ ms)) in
-      let bound : rest .bound ≡ size-named (st .bindings) = omega (arith, length-bindings edition-one (st .bindings)) in
-      let body : written + (rest .pending + rest .pile + m + rest .bound) ≡ size-equations (ds ++ st .pending) + size-named (st .pile ++ ms) + size-named (st .bindings) = omega arith in
+      let bound : rest .bound ≡ size-bindings (st .bindings) = omega (arith, length-bindings edition-one (st .bindings)) in
+      let body : written + (rest .pending + rest .pile + m + rest .bound) ≡ size-equations (ds ++ st .pending) + size-entries (st .pile ++ ms) + size-bindings (st .bindings) = omega arith in
       rw (body, pending, pile, R .bindings)
 
   pub keep-makes : {a : Made} {r : List ℕ} → Finished r₀ to written lent (kept-piece r₀ rest by m) (header-of (kept-header rest written m next)) a r

@@ -8,10 +8,9 @@ use Rattle.room.specs.Room.{getD-seg}
 use Rattle.room.specs.Layout.{HEADER}
 use Rattle.terms.specs.Bounds.{edition-one, MEMBER}
 use Rattle.terms.specs.Term.{Term, with, words}
-use Rattle.terms.specs.Answers.{Named}
 use Rattle.terms.specs.Formed.{Equation}
 use Rattle.terms.specs.Flat.{size-positive}
-use Rattle.search.specs.State.{State, pend, size-equations}
+use Rattle.search.specs.State.{State, Entry, pend, size-equations}
 use Rattle.search.specs.Classify.{classify}
 use Rattle.search.specs.StepView.{Stepped, stepped, splits}
 use Rattle.search.specs.declared.steps.Tails.{Tails}
@@ -43,7 +42,7 @@ module _ {arities l : List ℕ} {at number lent scratch most : ℕ} {st : State}
       (ap (λ (j : ℕ). getD l j 0) (sym place) ∙ sym (getD-seg l (at + HEADER) (size-equations (st .pending)) 0 some)
       ∙ ap (λ (ws : List ℕ). getD ws 0 0) (first-words (R .holds) cut) ∙ begins-marked _ (left-member v .1 .1))
 
-  by-pile : (ns : List Named) → st .pending ≡ [] → st .pile ≡ ns → Child l at number lent most st (Spent 0) l
+  by-pile : (ns : List Entry) → st .pending ≡ [] → st .pile ≡ ns → Child l at number lent most st (Spent 0) l
   by-pile [] q p = no-child l at number lent most st (no-joined st q p)
   by-pile (n ∷ ns) q p = only-passed l at number lent most st (one-joined st q p) later
 

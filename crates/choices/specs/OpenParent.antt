@@ -61,7 +61,7 @@ pub record Opened (arities l : List ℕ) (from : ℕ) (rest : Rest) (sides : Sid
   pub worded : Worded edition-one arities next
   pub formed-t : Formed arities next (p .t)
   pub formed-u : Formed arities next (p .u)
-  pub formed-pile : All (λ n. Formed arities next (n .value)) (p .st .pile)
+  pub formed-pile : All (λ n. Formed arities next (n .term)) (p .st .pile)
   pub few : next ≤ PATH-UNKNOWNS
   pub next-is : next ≡ p .st .next
   pub bindings-small : rest .bindings < 65534

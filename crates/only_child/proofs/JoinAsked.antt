@@ -4,9 +4,8 @@ use mathlib.Core.Path.{_≡_, refl, sym, ap, _∙_}
 use mathlib.Core.List.{List, [], _∷_}
 use native.Mathlib.Omega.{arith}
 use Rattle.room.specs.Layout.{stride, aside-row}
-use Rattle.terms.specs.Answers.{Named}
 use Rattle.terms.specs.Term.{unknown, over}
-use Rattle.search.specs.State.{State, Node, renewed, size-named}
+use Rattle.search.specs.State.{State, Node, Entry, renewed, size-entries}
 use Rattle.search.specs.Children.{children, children-by, bound, join, joined, without}
 use Rattle.rows.specs.declared.parts.Made.{Made}
 use Rattle.rows.specs.declared.parts.Rest.{Rest}
@@ -22,13 +21,13 @@ use Rattle.only_child.specs.Quiet.{Quiet}
 use Rattle.only_child.proofs.Only.{unopened, no-child, only-passed, only-due, only-made}
 use Rattle.only_child.proofs.ReadyRow.{Begins, held, kept-beside, rest-parts}
 
-no-entry : (ns : List Named) → size-named ns ≡ 0 → ns ≡ []
-unfolding size-named
+no-entry : (ns : List Entry) → size-entries ns ≡ 0 → ns ≡ []
+unfolding size-entries
 no-entry [] q = refl
 no-entry (n ∷ ns) q = absurd (omega arith)
 
-some-entry : (ns : List Named) → (size-named ns ≡ 0 → ⊥) → Begins ns
-unfolding size-named
+some-entry : (ns : List Entry) → (size-entries ns ≡ 0 → ⊥) → Begins ns
+unfolding size-entries
 some-entry [] n = absurd (n refl)
 some-entry (n ∷ ns) q = record { first = n; others = ns; cut = refl }
 
@@ -42,12 +41,12 @@ abbrev pub heir : State → ℕ → Node
 heir st x =
     bound x (over (joined x (st .pile)) (unknown (st .next))) (renewed (without x (st .pile) st))
 
-pub one-joined : (st : State) {n : Named} {ns : List Named} → st .pending ≡ [] → st .pile ≡ n ∷ ns → children st ≡ heir st (n .name) ∷ []
+pub one-joined : (st : State) {n : Entry} {ns : List Entry} → st .pending ≡ [] → st .pile ≡ n ∷ ns → children st ≡ heir st (n .name) ∷ []
 unfolding children children-by join
 one-joined st q p = rw (q, p)
 
 module _ {arities l : List ℕ} {at : ℕ} {header : Header} {number lent scratch most : ℕ} {st : State} (Q : Quiet arities l at header number lent scratch most st) where
-  pile-is : header .pile ≡ size-named (st .pile)
+  pile-is : header .pile ≡ size-entries (st .pile)
   unfolding header-for
   pile-is = ap (λ h. h .pile) (Q .header-is)
 

@@ -8,7 +8,7 @@ use Rattle.room.specs.Layout.{HEADER}
 use Rattle.terms.specs.Bounds.{edition-one}
 use Rattle.terms.specs.Term.{words, size}
 use Rattle.terms.specs.Formed.{Equation, row}
-use Rattle.search.specs.State.{State, pend, size-equations, size-named, state-size}
+use Rattle.search.specs.State.{State, pend, size-equations, size-entries, size-bindings, state-size}
 use Rattle.search.specs.Classify.{tails}
 use Rattle.search.specs.Children.{children}
 use Rattle.search.specs.Children as steps
@@ -42,7 +42,7 @@ module _ {arities l : List ℕ} {at : ℕ} {rest : Rest} {right end : ℕ} {kind
   sizes : size-equations (st .pending) ≡ size (e .left) + size (e .right) + size-equations es
   sizes = first-size st (S .cut)
 
-  body-fits : size-equations (st .pending) + size-named (st .pile) + size-named (st .bindings) ≤ lent
+  body-fits : size-equations (st .pending) + size-entries (st .pile) + size-bindings (st .bindings) ≤ lent
   unfolding state-size
   body-fits = S .ready .fits
 

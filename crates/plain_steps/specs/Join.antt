@@ -14,10 +14,11 @@ use Rattle.terms.specs.Kind.{takes, takes-member, Worded}
 use Rattle.terms.specs.Lists.{All, none, both, cases}
 use Rattle.terms.specs.Term.{words, size, members, kernel}
 use Rattle.terms.specs.Formed.{Formed}
-use Rattle.terms.specs.Answers.{Named, pile-words}
 use Rattle.terms.specs.Flat.{length-words, eqb-shift}
 use Rattle.terms.specs.Walk.{span, span-le, term-ends}
+use Rattle.search.specs.State.{Entry}
 use Rattle.search.specs.Children.{entries, joined}
+use Rattle.search.specs.StateWords.{pile-words}
 use Rattle.rows.specs.Ended.{term-end}
 use Rattle.rows.specs.Stripped.{stripped, kernel-at, kernel-at-words, kernel-place}
 use Rattle.rows.specs.Pile.{kept}
@@ -81,27 +82,27 @@ module _ {b : Bounds} (proper : Proper b) (arities : List ℕ) where
       )
 
 module _ {b : Bounds} {arities : List ℕ} {k : ℕ} (worded : Worded b arities k) (x : ℕ) where
-  joined-entry : (n : Named) (ns : List Named) → member-words b (joined x (n ∷ ns)) ≡ kept (eqb (n .name) x) (member-words b (members (n .value))) ++ member-words b (joined x ns)
+  joined-entry : (n : Entry) (ns : List Entry) → member-words b (joined x (n ∷ ns)) ≡ kept (eqb (n .name) x) (member-words b (members (n .term))) ++ member-words b (joined x ns)
   unfolding joined entries kept flatMap
   joined-entry n ns =
       cases (eqb (n .name) x)
-      (λ e. rw e (members-append b (members (n .value)) (joined x ns)))
+      (λ e. rw e (members-append b (members (n .term)) (joined x ns)))
       (λ e. rw e)
 
-  pub gathered-pile : (most : ℕ) {ns : List Named} → All (λ n. Formed arities k (n .value)) ns → length (pile-words b ns) ≤ most
+  pub gathered-pile : (most : ℕ) {ns : List Entry} → All (λ n. Formed arities k (n .term)) ns → length (pile-words b ns) ≤ most
       → gathered b arities (b .first-unknown + x) most (pile-words b ns) ≡ member-words b (joined x ns)
   unfolding gathered pile-words joined entries member-words flatMap
   gathered-pile zero none h = refl
   gathered-pile (suc most) none h = refl
   gathered-pile zero (both f fs) h = absurd (omega arith)
   gathered-pile (suc most) (both {x = n} {xs = ns} f fs) h =
-      let v : List ℕ = words b (n .value) in
-      let l : length v ≡ size (n .value) = length-words b (n .value) in
-      let e : term-end b arities (v ++ pile-words b ns) ≡ size (n .value) = term-ends worded f (pile-words b ns) in
-      let q : kernel-at b arities (v ++ pile-words b ns) ≡ kernel-place (n .value) = kernel-at-words worded f (pile-words b ns) in
-      let p : take (kernel-place (n .value)) (v ++ pile-words b ns) ≡ member-words b (members (n .value)) =
-      take-append-le (kernel-place (n .value)) v (pile-words b ns)
-      (omega (arith, length-members b (n .value), ap length (words-members b (n .value)), length-append (member-words b (members (n .value))) (words b (kernel (n .value)))))
-      ∙ take-members b (n .value) in
-      rw (e, q, p, eqb-shift (b .first-unknown) (n .name) x, drop-at v (pile-words b ns) (size (n .value)) l, gathered-pile most fs (omega (arith, length-append v (pile-words b ns))))
+      let v : List ℕ = words b (n .term) in
+      let l : length v ≡ size (n .term) = length-words b (n .term) in
+      let e : term-end b arities (v ++ pile-words b ns) ≡ size (n .term) = term-ends worded f (pile-words b ns) in
+      let q : kernel-at b arities (v ++ pile-words b ns) ≡ kernel-place (n .term) = kernel-at-words worded f (pile-words b ns) in
+      let p : take (kernel-place (n .term)) (v ++ pile-words b ns) ≡ member-words b (members (n .term)) =
+      take-append-le (kernel-place (n .term)) v (pile-words b ns)
+      (omega (arith, length-members b (n .term), ap length (words-members b (n .term)), length-append (member-words b (members (n .term))) (words b (kernel (n .term)))))
+      ∙ take-members b (n .term) in
+      rw (e, q, p, eqb-shift (b .first-unknown) (n .name) x, drop-at v (pile-words b ns) (size (n .term)) l, gathered-pile most fs (omega (arith, length-append v (pile-words b ns))))
       (sym (joined-entry n ns))

@@ -14,12 +14,11 @@ use Rattle.room.specs.Layout.{stride}
 use Rattle.terms.specs.Bounds.{edition-one, edition-one-proper, edition-one-unknowns-first, FIRST-UNKNOWN, PATH-UNKNOWNS}
 use Rattle.terms.specs.Lists.{All, both, any, cases}
 use Rattle.terms.specs.Term.{Term, unknown, words, size, occurs, over}
-use Rattle.terms.specs.Answers.{Named, pile-words}
 use Rattle.terms.specs.Substitution.{occurs-over}
-use Rattle.search.specs.State.{State, Node, live, dead, pend, renewed, size-equations, size-named, state-size}
+use Rattle.search.specs.State.{State, Node, dead, live, Entry, pend, renewed, size-equations, size-entries, size-bindings, state-size}
 use Rattle.search.specs.Children.{bound-state, bound, joined, without}
 use Rattle.search.specs.PileEntries.{entries-others, others-others}
-use Rattle.search.specs.StateWords.{length-pile}
+use Rattle.search.specs.StateWords.{pile-words, length-pile}
 use Rattle.rows.specs.declared.parts.Rest.{Rest}
 use Rattle.rows.specs.declared.parts.Made.{Made}
 use Rattle.rows.specs.declared.parts.Made.the-variants.{Dead, Names, Live}
@@ -44,7 +43,7 @@ makes-none {l} i vs e h t d = record {
   holds = λ st p q. absurd (d q);
 }
 
-module _ {arities r₀ : List ℕ} {from to scratch lent : ℕ} {st : State} (H : Held arities r₀ from to scratch lent st) (quiet : st .pending ≡ []) {n₀ : Named} {ns : List Named} (some : st .pile ≡ n₀ ∷ ns) where
+module _ {arities r₀ : List ℕ} {from to scratch lent : ℕ} {st : State} (H : Held arities r₀ from to scratch lent st) (quiet : st .pending ≡ []) {n₀ : Entry} {ns : List Entry} (some : st .pile ≡ n₀ ∷ ns) where
   abbrev rest : Rest
   rest = rest-after from (header-for st) 0
 
@@ -65,13 +64,13 @@ module _ {arities r₀ : List ℕ} {from to scratch lent : ℕ} {st : State} (H 
   unfolding rest-after header-for size-equations
   no-pending = let e : size-equations (st .pending) ≡ 0 = ap size-equations quiet in omega arith
 
-  pile-size : rest .pile ≡ size-named (st .pile)
+  pile-size : rest .pile ≡ size-entries (st .pile)
   unfolding rest-after header-for
   pile-size = refl
 
   some-pile : 0 < rest .pile
-  unfolding size-named rest-after header-for
-  some-pile = let e : size-named (st .pile) ≡ suc (size (n₀ .value)) + size-named ns = ap size-named some in omega arith
+  unfolding size-entries rest-after header-for
+  some-pile = let e : size-entries (st .pile) ≡ suc (size (n₀ .term)) + size-entries ns = ap size-entries some in omega arith
 
   pile-stands : seg r₀ (rest .at) (rest .pile) ≡ pile-words edition-one (st .pile)
   unfolding pend
@@ -107,7 +106,7 @@ module _ {arities r₀ : List ℕ} {from to scratch lent : ℕ} {st : State} (H 
 
   pile-fits : rest .pile ≤ lent
   unfolding rest-after header-for state-size
-  pile-fits = let f : size-equations (st .pending) + size-named (st .pile) + size-named (st .bindings) ≤ lent = H .fits in omega arith
+  pile-fits = let f : size-equations (st .pending) + size-entries (st .pile) + size-bindings (st .bindings) ≤ lent = H .fits in omega arith
 
   rest-before : rest .at + (rest .pending + rest .pile + rest .bound) ≤ to
   unfolding size-equations

@@ -11,10 +11,9 @@ use Rattle.room.specs.Layout.{HEADER, stride}
 use Rattle.terms.specs.Bounds.{edition-one, FIRST-UNKNOWN}
 use Rattle.terms.specs.Term.{Term, words, size}
 use Rattle.terms.specs.Formed.{Equation, row, sides}
-use Rattle.terms.specs.Answers.{pile-words}
-use Rattle.search.specs.State.{State, Node, live, pend, piled, size-equations, size-named, state-size}
+use Rattle.search.specs.State.{State, Node, live, pend, piled, size-equations, size-entries, size-bindings, state-size}
 use Rattle.search.specs.Children.{bound-state}
-use Rattle.search.specs.StateWords.{pending-words}
+use Rattle.search.specs.StateWords.{pending-words, pile-words}
 use Rattle.rows.specs.declared.parts.Rest.{Rest}
 use Rattle.rows.specs.declared.parts.Made.{Made}
 use Rattle.rows.specs.declared.first.Subject.{Subject}
@@ -132,7 +131,7 @@ module _ {arities r₀ : List ℕ} {from to scratch lent : ℕ} {st : State} (H 
     entry-small : s .m ≤ lent
     unfolding state-size
     entry-small =
-        let f : size-equations (st .pending) + size-named (st .pile) + size-named (st .bindings) ≤ lent = H .fits in
+        let f : size-equations (st .pending) + size-entries (st .pile) + size-bindings (st .bindings) ≤ lent = H .fits in
         omega (arith, A .after, A .before, first-size st cut)
 
     pub postpone-first-parts : PostponeParts r₀ rest s scratch to lent (st .next)
@@ -142,7 +141,7 @@ module _ {arities r₀ : List ℕ} {from to scratch lent : ℕ} {st : State} (H 
       by-apart = earlier (omega (arith, A .before, sides-within H cut, H .rows .next-row));
     }
 
-    entry-piled : Piled (postponed r₀ s scratch) scratch (s .m + 1) (record { name = x; value = t } ∷ [])
+    entry-piled : Piled (postponed r₀ s scratch) scratch (s .m + 1) (record { name = x; term = t } ∷ [])
     unfolding postponed pile-words edition-one
     entry-piled = record {
       piled = ap (seg (put r₀ scratch laid) scratch) (sym length-laid) ∙ seg-put-same laid r₀ scratch (omega (arith, length-laid, entry-small, H .rows .scratch-rows))

@@ -16,13 +16,12 @@ use Rattle.replace.specs.declared.Copied.the-variants.{Done, Full}
 use Rattle.terms.specs.Bounds.{edition-one, FIRST-UNKNOWN}
 use Rattle.terms.specs.Term.{words, kernel}
 use Rattle.terms.specs.Formed.{Equation, sides, row}
-use Rattle.terms.specs.Answers.{Named, pile-words}
 use Rattle.terms.specs.Lists.{cases}
 use Rattle.search.specs.declared.steps.Tails.the-variants.{Neither}
-use Rattle.search.specs.State.{State, live, pend, state-size}
+use Rattle.search.specs.State.{State, live, Entry, pend, state-size}
 use Rattle.search.specs.Classify.{tails}
 use Rattle.search.specs.Children.{settle}
-use Rattle.search.specs.StateWords.{pending-words, length-pending}
+use Rattle.search.specs.StateWords.{pending-words, pile-words, length-pending}
 use Rattle.rows.specs.declared.parts.Rest.{Rest}
 use Rattle.rows.specs.declared.parts.Made.{Made}
 use Rattle.rows.specs.declared.parts.Made.the-variants.{Large}
@@ -123,7 +122,7 @@ module _ {l : List ℕ} {from : ℕ} {sides : Sides} {to capacity : ℕ} (P : Ta
 
 -- ---- new equations, then the rest of the row
 
-news-size : (ds : List Equation) (ms : List Named) (next : ℕ) (st : State) → length (pending-words edition-one ds) ≤ state-size (extended ds ms next st)
+news-size : (ds : List Equation) (ms : List Entry) (next : ℕ) (st : State) → length (pending-words edition-one ds) ≤ state-size (extended ds ms next st)
 unfolding state-size extended
 news-size ds ms next st =
     omega (arith, length-pending edition-one (ds ++ st .pending), ap length (pending-append edition-one ds (st .pending)), length-append (pending-words edition-one ds) (pending-words edition-one (st .pending)))
@@ -143,7 +142,7 @@ module _ {arities l : List ℕ} {from : ℕ} {rest : Rest} {sides : Sides} {to l
   due-wrote W = due-elsewhere (wrote-elsewhere (due-target D) W) D
 
   module _ (ds : List Equation) where
-    pub kept-full : (ms : List Named) {r : List ℕ} → Wrote l (to + HEADER) lent (pending-words edition-one ds) Full r
+    pub kept-full : (ms : List Entry) {r : List ℕ} → Wrote l (to + HEADER) lent (pending-words edition-one ds) Full r
         → Makes edition-one l to lent (live (extended ds ms next (p .st))) Large r × Elsewhere l r from lent scratch
     unfolding edition-one extended
     kept-full ms w =
@@ -171,7 +170,7 @@ module _ {arities l : List ℕ} {from : ℕ} {rest : Rest} {sides : Sides} {to l
             next-small = omega arith;
           }
 
-      pub kept-made : {ms : List Named} → Piled l by m ms → {a : Made} {q : List ℕ} → Finished r to w lent (kept-piece r rest by m) (header-of (kept-header rest w m next)) a q
+      pub kept-made : {ms : List Entry} → Piled l by m ms → {a : Made} {q : List ℕ} → Finished r to w lent (kept-piece r rest by m) (header-of (kept-header rest w m next)) a q
           → Makes edition-one l to lent (live (extended ds ms next (p .st))) a q × Elsewhere l q from lent scratch
       unfolding edition-one
       kept-made {ms} E F =

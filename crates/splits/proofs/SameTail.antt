@@ -19,10 +19,9 @@ use Rattle.rows.specs.declared.parts.Rest.{Rest}
 use Rattle.rows.specs.MemberWords.{member-words, members-append, words-over}
 use Rattle.binding.specs.Child.{extended}
 use Rattle.terms.specs.Formed.{Equation}
-use Rattle.terms.specs.Answers.{pile-words}
 use Rattle.search.specs.declared.steps.Tails.the-variants.{Same}
 use Rattle.search.specs.Classify.{tails-by, tails}
-use Rattle.search.specs.StateWords.{pending-words}
+use Rattle.search.specs.StateWords.{pending-words, pile-words}
 use Rattle.replace.specs.declared.Copied.the-variants.{Done, Full}
 use Rattle.rows.specs.declared.parts.Made.{Made}
 use Rattle.rows.specs.declared.parts.Made.the-variants.{Large}
@@ -37,7 +36,7 @@ use Rattle.splits.proofs.NothingBound.{kept-full, kept-made}
 use Rattle.choices.specs.declared.sides.Sides.{Sides}
 use Rattle.choices.specs.Gathered.{joining-piece, TailParts}
 use Rattle.choices.specs.OpenParent.{Parent, Opened, Elsewhere, elsewhere-next, elsewhere-put, opened-after, to-left, to-right, news}
-use Rattle.splits.specs.KeptTails.{entry-of, Entry, EntryLaid}
+use Rattle.splits.specs.KeptTails.{entry-of, EntryPut, EntryLaid}
 use Rattle.tails.proofs.OpenSplit.{numbers, s-stands, s-noted, r-noted, left-parts, right-parts, left-is, right-is}
 use Rattle.tails.proofs.Tailing.{unknown-word}
 
@@ -138,7 +137,7 @@ module _ {arities l : List ℕ} {from : ℕ} {rest : Rest} {sides : Sides} {lent
         laid-below : seg (set q (value + 1 + k + j) x) 0 scratch ≡ seg l 0 scratch
         laid-below = rw laid-all (seg-put out l (earlier (omega arith)))
 
-        pub no-entry : k + j ≡ 0 → Entry l from lent scratch p 0 (set q (value + 1 + k + j) x)
+        pub no-entry : k + j ≡ 0 → EntryPut l from lent scratch p 0 (set q (value + 1 + k + j) x)
         unfolding entry-of pile-words
         no-entry z =
             let N = numbers S in
@@ -150,7 +149,7 @@ module _ {arities l : List ℕ} {from : ℕ} {rest : Rest} {sides : Sides} {lent
               piled = λ g. record { piled = rw e (seg-zero (set q (value + 1 + k + j) x) value) };
             }
 
-        pub one-entry : (k + j ≡ 0 → ⊥) → x ≡ getD l (from + HEADER + sides .s) 0 → Entry l from lent scratch p (k + j + 2) (set q (value + 1 + k + j) x)
+        pub one-entry : (k + j ≡ 0 → ⊥) → x ≡ getD l (from + HEADER + sides .s) 0 → EntryPut l from lent scratch p (k + j + 2) (set q (value + 1 + k + j) x)
         one-entry z w =
             let N = numbers S in
             let a = k-within in
@@ -189,7 +188,7 @@ piled-up x (m ∷ ms) st es next e = rw e
 
 module _ {arities l : List ℕ} {from : ℕ} {rest : Rest} {sides : Sides} {to lent next scratch : ℕ} {p : Parent} (D : Due arities l from rest sides to lent next scratch p)
     {a : ℕ} {r : List ℕ} (L : EntryLaid l from sides lent scratch a r) where
-  abbrev the-entry : Entry l from lent scratch p a r
+  abbrev the-entry : EntryPut l from lent scratch p a r
   the-entry = L .laid arities rest next p (D .opened)
 
   pub due-laid : Due arities r from rest sides to lent next scratch p

@@ -9,7 +9,7 @@ use lib.ListN.{length}
 use Rattle.room.specs.Layout.{HEADER, value-row}
 use Rattle.terms.specs.Term.{Term, kernel, over}
 use Rattle.terms.specs.Shape.{is-unknown, number}
-use Rattle.terms.specs.Answers.{Named}
+use Rattle.search.specs.State.{Entry}
 use Rattle.rows.specs.declared.parts.Rest.{Rest}
 use Rattle.binding.specs.Child.{Piled}
 use Rattle.choices.specs.declared.sides.Sides.{Sides}
@@ -27,9 +27,9 @@ pub record TailsParts (l : List ℕ) (from : ℕ) (sides : Sides) (to capacity :
   pub apart : Apart (from + HEADER) (sides .end) to capacity
 
 -- the entry X = {ms|X}, if there is a member
-unfoldable pub entry-of : List Term → Term → List Named
+unfoldable pub entry-of : List Term → Term → List Entry
 entry-of [] x = []
-entry-of (m ∷ ms) x = record { name = number x; value = over (m ∷ ms) x } ∷ []
+entry-of (m ∷ ms) x = record { name = number x; term = over (m ∷ ms) x } ∷ []
 
 pub record EntryParts (l : List ℕ) (from : ℕ) (sides : Sides) (lent scratch : ℕ) : Type 0 where
   pub arities : List ℕ
@@ -39,11 +39,11 @@ pub record EntryParts (l : List ℕ) (from : ℕ) (sides : Sides) (lent scratch 
   pub opened : Opened arities l from rest sides lent next scratch p
 
 -- the entry is laid out there, and nothing below is changed
-pub record Entry (l : List ℕ) (from : ℕ) (lent scratch : ℕ) (p : Parent) (a : ℕ) (r : List ℕ) : Type 0 where
+pub record EntryPut (l : List ℕ) (from : ℕ) (lent scratch : ℕ) (p : Parent) (a : ℕ) (r : List ℕ) : Type 0 where
   pub elsewhere : Elsewhere l r from lent scratch
   pub below : seg r 0 scratch ≡ seg l 0 scratch
   pub within : value-row lent scratch + a ≤ length l
   pub piled : is-unknown (kernel (p .t)) ≡ true → Piled r (value-row lent scratch) a (entry-of (to-right p ++ to-left p) (kernel (p .t)))
 
 pub record EntryLaid (l : List ℕ) (from : ℕ) (sides : Sides) (lent scratch : ℕ) (a : ℕ) (r : List ℕ) : Type 0 where
-  pub laid : (arities : List ℕ) (rest : Rest) (next : ℕ) (p : Parent) → Opened arities l from rest sides lent next scratch p → Entry l from lent scratch p a r
+  pub laid : (arities : List ℕ) (rest : Rest) (next : ℕ) (p : Parent) → Opened arities l from rest sides lent next scratch p → EntryPut l from lent scratch p a r

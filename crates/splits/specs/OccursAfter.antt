@@ -11,11 +11,11 @@ use Rattle.room.specs.Replaced.{replaced, length-le-replaced}
 use Rattle.terms.specs.Bounds.{edition-one, edition-one-unknowns-first, FIRST-UNKNOWN}
 use Rattle.terms.specs.Lists.{cases}
 use Rattle.terms.specs.Term.{Term, Terms, unknown, empty, with, functor, none, more, words, size, occurs, occurs*, subst, subst*}
-use Rattle.terms.specs.Answers.{Named, binding-words, pile-words}
+use Rattle.terms.specs.Answers.{binding-words}
 use Rattle.terms.specs.Flat.{length-words, size-positive}
-use Rattle.search.specs.State.{State, size-named, state-size}
+use Rattle.search.specs.State.{State, Entry, size-entries, state-size}
 use Rattle.search.specs.Children.{entries, others, bound-state}
-use Rattle.search.specs.StateWords.{pending-words, state-words, length-state, length-pending, length-pile, length-bindings}
+use Rattle.search.specs.StateWords.{pending-words, pile-words, state-words, length-state, length-pending, length-pile, length-bindings}
 use Rattle.rows.specs.States.{bound-body}
 
 regroup : (a b c d e : Bool) → ((a || (b && e)) || (c || (d && e))) ≡ ((a || c) || ((b || d) && e))
@@ -47,8 +47,8 @@ module _ {r s : ℕ} (differ : r ≡ s → ⊥) (v : Term) where
 
 -- ---- sizes
 
-parted : (x : ℕ) (ns : List Named) → size-named (entries x ns) + size-named (others x ns) ≡ size-named ns
-unfolding entries others size-named
+parted : (x : ℕ) (ns : List Entry) → size-entries (entries x ns) + size-entries (others x ns) ≡ size-entries ns
+unfolding entries others size-entries
 parted x [] = refl
 parted x (n ∷ ns) =
     cases (eqb (n .name) x) (λ t. rw t (omega (arith, parted x ns))) (λ f. rw f (omega (arith, parted x ns)))

@@ -46,7 +46,7 @@ pub record Again (arities l : List ℕ) (between x by m to lent next : ℕ) (st 
   pub fresh : Fresh edition-one l between st
   pub fits : state-size st ≤ lent
   pub worded : Worded edition-one arities next
-  pub formed : All (λ n. Formed arities next (n .value)) (st .pile)
+  pub formed : All (λ n. Formed arities next (n .term)) (st .pile)
   pub next-is : next ≡ st .next
   pub few : next ≤ PATH-UNKNOWNS
   pub lent-small : lent ≤ most-size
