@@ -1,4 +1,4 @@
--- What a child's row has after its new equations, where x is bound to the m words at a place: the rest of the pending equations and the released
+-- The sections of a child's row after its new equations, where x is bound to the m words at a place: the rest of the pending equations and the released
 -- entries, the other entries, each with x replaced; then the bindings, and x's number with its value. Last, where these parts of the room lie.
 use Prim.Native.Nat.{ℕ, _+_, _-_, _^_, _≤_, _<_}
 use mathlib.Core.Path.{_≡_}
@@ -11,24 +11,30 @@ use Rattle.room.specs.Replaced.{replaced}
 use Rattle.room.specs.Layout.{HEADER}
 use Rattle.terms.specs.Bounds.{Bounds, FIRST-UNKNOWN}
 use Rattle.search.specs.RunLimits.{most-size}
+use Rattle.search.specs.StateWords.{Section, Pending, Pile, Bindings, in-order}
 use Rattle.rows.specs.declared.parts.Rest.{Rest}
 use Rattle.rows.specs.declared.parts.Part.the-variants.{Entries, Others}
+use Rattle.rows.specs.Sections.{section-in}
 use Rattle.rows.specs.Pile.{selection}
 
 unfoldable pub pending-piece : Bounds → (arities room : List ℕ) → Rest → (x by m : ℕ) → List ℕ
 pending-piece b arities r rest x by m =
-    replaced x (seg r by m) (seg r (rest .at) (rest .pending))
-    ++ replaced x (seg r by m) (selection b arities Entries x (seg r (rest .at + rest .pending) (rest .pile)))
+    replaced x (seg r by m) (section-in r rest Pending) ++ replaced x (seg r by m) (selection b arities Entries x (section-in r rest Pile))
 
 unfoldable pub pile-piece : Bounds → (arities room : List ℕ) → Rest → (x by m : ℕ) → List ℕ
-pile-piece b arities r rest x by m = replaced x (seg r by m) (selection b arities Others x (seg r (rest .at + rest .pending) (rest .pile)))
+pile-piece b arities r rest x by m = replaced x (seg r by m) (selection b arities Others x (section-in r rest Pile))
 
 unfoldable pub last-piece : (room : List ℕ) → Rest → (x by m : ℕ) → List ℕ
-last-piece r rest x by m = seg r (rest .at + rest .pending + rest .pile) (rest .bound) ++ ((x - FIRST-UNKNOWN) ∷ seg r by m)
+last-piece r rest x by m = section-in r rest Bindings ++ ((x - FIRST-UNKNOWN) ∷ seg r by m)
 
--- all of them
+-- each by its section, and all of them in order
+abbrev pub bound-section : Bounds → (arities room : List ℕ) → Rest → (x by m : ℕ) → Section → List ℕ
+bound-section b arities r rest x by m Pending = pending-piece b arities r rest x by m
+bound-section b arities r rest x by m Pile = pile-piece b arities r rest x by m
+bound-section b arities r rest x by m Bindings = last-piece r rest x by m
+
 unfoldable pub bound-piece : Bounds → (arities room : List ℕ) → Rest → (x by m : ℕ) → List ℕ
-bound-piece b arities r rest x by m = pending-piece b arities r rest x by m ++ (pile-piece b arities r rest x by m ++ last-piece r rest x by m)
+bound-piece b arities r rest x by m = in-order (bound-section b arities r rest x by m)
 
 -- the rest of a row, the words at by, and what is written
 pub record BindParts (l : List ℕ) (rest : Rest) (by m to capacity : ℕ) : Type 0 where

@@ -4,6 +4,7 @@ pub mod Stripped
 pub mod HeldWords
 pub mod Wrote
 pub mod Header
+pub mod Sections
 pub mod Pile
 pub mod Bind
 pub mod Finished

@@ -1,4 +1,4 @@
--- A row of the room that holds a state: a header of eight words, then the state's words. What is left of it after its first equation, and what a
+-- A row of the room that holds a state: a header of eight words, then the words of the state's sections. What is left of it after its first equation, and what a
 -- function that makes a child says: the child's row holds the child, and the rows before it are as they were.
 use Prim.Native.Nat.{ℕ, _+_, _-_, _≤_}
 use mathlib.Core.Path.{_≡_, refl, ap, sym, _∙_}
@@ -12,24 +12,24 @@ use Rattle.room.specs.Room.{seg, put, Within, length-put, length-seg, seg-appen
 use Rattle.room.specs.Parts.{Apart, earlier, later, seg-put}
 use Rattle.room.specs.Layout.{HEADER, stride}
 use Rattle.terms.specs.Bounds.{Bounds}
-use Rattle.terms.specs.Answers.{binding-words}
 use Rattle.terms.specs.Lists.{cases}
-use Rattle.search.specs.State.{State, Node, dead, live, size-equations, size-entries, state-size}
-use Rattle.search.specs.StateWords.{pending-words, pile-words, state-words, length-state}
+use Rattle.search.specs.State.{State, Node, dead, live, state-size}
+use Rattle.search.specs.StateWords.{Pending, Pile, Bindings, section-words, state-words, length-state}
 use Rattle.rows.specs.declared.parts.Rest.{Rest}
 use Rattle.rows.specs.declared.parts.Made.{Made}
 use Rattle.rows.specs.declared.parts.Made.the-variants.{Dead, Names, Large, Live}
 use Rattle.rows.specs.declared.header.Header.{Header}
 use Rattle.rows.specs.Header.{header-of}
+use Rattle.rows.specs.Sections.{section-count, section-in}
 use Rattle.rows.specs.Finished.{Finished, made, finished-length}
 
 -- the numbers of a state's header
 unfoldable pub header-for : State → Header
 header-for st = record {
-  pending = size-equations (st .pending);
-  pile = size-entries (st .pile);
+  pending = section-count st Pending;
+  pile = section-count st Pile;
   body = state-size st;
-  bindings = length (st .bindings);
+  bindings = section-count st Bindings;
   next = st .next;
 }
 
@@ -50,10 +50,10 @@ pub record Fresh (b : Bounds) (l : List ℕ) (at : ℕ) (st : State) : Type 0 wh
 -- ---- what is left of a row
 
 pub record Rested (b : Bounds) (l : List ℕ) (rest : Rest) (st : State) : Type 0 where
-  pub pending : seg l (rest .at) (rest .pending) ≡ pending-words b (st .pending)
-  pub pile : seg l (rest .at + rest .pending) (rest .pile) ≡ pile-words b (st .pile)
-  pub bound : seg l (rest .at + rest .pending + rest .pile) (rest .bound) ≡ binding-words b (st .bindings)
-  pub bindings : rest .bindings ≡ length (st .bindings)
+  pub pending : section-in l rest Pending ≡ section-words b st Pending
+  pub pile : section-in l rest Pile ≡ section-words b st Pile
+  pub bound : section-in l rest Bindings ≡ section-words b st Bindings
+  pub bindings : rest .bindings ≡ section-count st Bindings
 
 -- ---- a child
 

@@ -1,4 +1,4 @@
--- A state's words: those of lists that are joined; and a binding of x to t replaces x's word by t's words in all but the bindings.
+-- A state's words: those of lists that are joined; and a binding of x to t replaces x's word by t's words in every section but the bindings.
 use Prim.Native.Nat.{ℕ, _+_, _-_, _<_}
 use mathlib.Core.Path.{_≡_, refl, ap, sym, _∙_}
 use mathlib.Core.List.{List, [], _∷_, _++_, append-assoc, append-nil, map}
@@ -13,7 +13,7 @@ use Rattle.terms.specs.Answers.{Binding, binding-words}
 use Rattle.terms.specs.Lists.{cases}
 use Rattle.search.specs.State.{State, Entry}
 use Rattle.search.specs.Children.{replace-in, entries, others, released, kept, bound-state}
-use Rattle.search.specs.StateWords.{pending-words, pile-words, state-words}
+use Rattle.search.specs.StateWords.{pending-words, pile-words, Section, Pending, Pile, Bindings, in-order, section-words, state-words}
 use Rattle.rows.specs.HeldWords.{replaced-words}
 
 -- ---- joined
@@ -72,10 +72,13 @@ module _ {b : Bounds} (order : UnknownsFirst b) {x : ℕ} (h : x < b .unknown-wo
       (ap (λ (ws : List ℕ). (b .first-unknown + n .name) ∷ ws)
       (side (n .term) (pile-words b (others x ns)) ∙ ap (λ (ws : List ℕ). words b (subst x t (n .term)) ++ ws) (replaced-others ns))))
 
-  -- the body of the state with x bound
-  pub bound-body : (st : State)
-      → (put-for (pending-words b (st .pending)) ++ put-for (pile-words b (entries x (st .pile))))
-      ++ (put-for (pile-words b (others x (st .pile))) ++ (binding-words b (st .bindings) ++ (x ∷ words b t))) ≡ state-words b (bound-state x t st)
+  -- the sections of the state with x bound, and its body
+  abbrev pub replaced-section : State → Section → List ℕ
+  replaced-section st Pending = put-for (section-words b st Pending) ++ put-for (pile-words b (entries x (st .pile)))
+  replaced-section st Pile = put-for (pile-words b (others x (st .pile)))
+  replaced-section st Bindings = section-words b st Bindings ++ (x ∷ words b t)
+
+  pub bound-body : (st : State) → in-order (replaced-section st) ≡ state-words b (bound-state x t st)
   unfolding state-words bound-state binding-words
   bound-body st =
       rw (

@@ -1,4 +1,5 @@
--- A state in words: its pending equations' sides, left, right, left, right .., then its pile, then its bindings. It has as many words as its size says.
+-- A state in words, section by section: its pending equations' sides, left, right, left, right .., then its pile, then its bindings. It has as many
+-- words as its size says.
 use Prim.Native.Nat.{ℕ, _+_}
 use mathlib.Core.Path.{_≡_, refl}
 use mathlib.Core.List.{List, [], _∷_, _++_}
@@ -19,8 +20,22 @@ unfoldable pub pile-words : Bounds → List Entry → List ℕ
 pile-words b [] = []
 pile-words b (n ∷ ns) = (b .first-unknown + n .name) ∷ (words b (n .term) ++ pile-words b ns)
 
+pub data Section : Type 0 where
+  Pending : Section
+  Pile : Section
+  Bindings : Section
+
+-- the sections' words in their order, one after the other
+abbrev pub in-order : (Section → List ℕ) → List ℕ
+in-order words-of = words-of Pending ++ (words-of Pile ++ words-of Bindings)
+
+abbrev pub section-words : Bounds → State → Section → List ℕ
+section-words b st Pending = pending-words b (st .pending)
+section-words b st Pile = pile-words b (st .pile)
+section-words b st Bindings = binding-words b (st .bindings)
+
 unfoldable pub state-words : Bounds → State → List ℕ
-state-words b st = pending-words b (st .pending) ++ (pile-words b (st .pile) ++ binding-words b (st .bindings))
+state-words b st = in-order (section-words b st)
 
 -- ---- how long they are
 
