@@ -17,24 +17,24 @@ use Rattle.rows.specs.declared.parts.Part.the-variants.{Entries, Others}
 use Rattle.rows.specs.Sections.{section-in}
 use Rattle.rows.specs.Pile.{selection}
 
-unfoldable pub pending-piece : Bounds → (arities room : List ℕ) → Rest → (x by m : ℕ) → List ℕ
-pending-piece b arities r rest x by m =
+unfoldable pub bound-pending : Bounds → (arities room : List ℕ) → Rest → (x by m : ℕ) → List ℕ
+bound-pending b arities r rest x by m =
     replaced x (seg r by m) (section-in r rest Pending) ++ replaced x (seg r by m) (selection b arities Entries x (section-in r rest Pile))
 
-unfoldable pub pile-piece : Bounds → (arities room : List ℕ) → Rest → (x by m : ℕ) → List ℕ
-pile-piece b arities r rest x by m = replaced x (seg r by m) (selection b arities Others x (section-in r rest Pile))
+unfoldable pub bound-pile : Bounds → (arities room : List ℕ) → Rest → (x by m : ℕ) → List ℕ
+bound-pile b arities r rest x by m = replaced x (seg r by m) (selection b arities Others x (section-in r rest Pile))
 
-unfoldable pub last-piece : (room : List ℕ) → Rest → (x by m : ℕ) → List ℕ
-last-piece r rest x by m = section-in r rest Bindings ++ ((x - FIRST-UNKNOWN) ∷ seg r by m)
+unfoldable pub bound-bindings : (room : List ℕ) → Rest → (x by m : ℕ) → List ℕ
+bound-bindings r rest x by m = section-in r rest Bindings ++ ((x - FIRST-UNKNOWN) ∷ seg r by m)
 
 -- each by its section, and all of them in order
 abbrev pub bound-section : Bounds → (arities room : List ℕ) → Rest → (x by m : ℕ) → Section → List ℕ
-bound-section b arities r rest x by m Pending = pending-piece b arities r rest x by m
-bound-section b arities r rest x by m Pile = pile-piece b arities r rest x by m
-bound-section b arities r rest x by m Bindings = last-piece r rest x by m
+bound-section b arities r rest x by m Pending = bound-pending b arities r rest x by m
+bound-section b arities r rest x by m Pile = bound-pile b arities r rest x by m
+bound-section b arities r rest x by m Bindings = bound-bindings r rest x by m
 
-unfoldable pub bound-piece : Bounds → (arities room : List ℕ) → Rest → (x by m : ℕ) → List ℕ
-bound-piece b arities r rest x by m = in-order (bound-section b arities r rest x by m)
+unfoldable pub bound-body : Bounds → (arities room : List ℕ) → Rest → (x by m : ℕ) → List ℕ
+bound-body b arities r rest x by m = in-order (bound-section b arities r rest x by m)
 
 -- the rest of a row, the words at by, and what is written
 pub record BindParts (l : List ℕ) (rest : Rest) (by m to capacity : ℕ) : Type 0 where

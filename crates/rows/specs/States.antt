@@ -78,9 +78,9 @@ module _ {b : Bounds} (order : UnknownsFirst b) {x : ℕ} (h : x < b .unknown-wo
   replaced-section st Pile = put-for (pile-words b (others x (st .pile)))
   replaced-section st Bindings = section-words b st Bindings ++ (x ∷ words b t)
 
-  pub bound-body : (st : State) → in-order (replaced-section st) ≡ state-words b (bound-state x t st)
+  pub bound-state-words : (st : State) → in-order (replaced-section st) ≡ state-words b (bound-state x t st)
   unfolding state-words bound-state binding-words
-  bound-body st =
+  bound-state-words st =
       rw (
         replaced-pending (st .pending),
         replaced-entries (st .pile),
