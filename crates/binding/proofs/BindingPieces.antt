@@ -15,7 +15,7 @@ use Rattle.rows.specs.declared.parts.Rest.{Rest}
 use Rattle.rows.specs.declared.parts.Part.the-variants.{Entries}
 use Rattle.rows.specs.Pile.{selection}
 use Rattle.rows.specs.Wrote.{Wrote, wrote-full, wrote-all, wrote-replaced, wrote-more, wrote-length, full-more, done-fits, done-length}
-use Rattle.rows.specs.Bind.{BindParts, bind-part, pile-parts, pending-piece, pile-piece, last-piece}
+use Rattle.rows.specs.Bind.{BindParts, bind-part, pile-parts, bound-pending, bound-pile, bound-bindings}
 
 -- r has the same words as r₀ where a binding reads
 pub record Same (r₀ r : List ℕ) (rest : Rest) (by m : ℕ) : Type 0 where
@@ -25,12 +25,12 @@ pub record Same (r₀ r : List ℕ) (rest : Rest) (by m : ℕ) : Type 0 where
   pub bound : seg r (rest .at + rest .pending + rest .pile) (rest .bound) ≡ seg r₀ (rest .at + rest .pending + rest .pile) (rest .bound)
 
 module _ {r₀ r : List ℕ} {rest : Rest} {by m : ℕ} (s : Same r₀ r rest by m) (x : ℕ) where
-  pub same-pile : (arities : List ℕ) → pile-piece edition-one arities r rest x by m ≡ pile-piece edition-one arities r₀ rest x by m
-  unfolding pile-piece
+  pub same-pile : (arities : List ℕ) → bound-pile edition-one arities r rest x by m ≡ bound-pile edition-one arities r₀ rest x by m
+  unfolding bound-pile
   same-pile arities = rw (s .value, s .pile)
 
-  pub same-last : last-piece r rest x by m ≡ last-piece r₀ rest x by m
-  unfolding last-piece
+  pub same-last : bound-bindings r rest x by m ≡ bound-bindings r₀ rest x by m
+  unfolding bound-bindings
   same-last = rw (s .value, s .bound)
 
 module _ {r₀ : List ℕ} {rest : Rest} {by m to capacity : ℕ} (P : BindParts r₀ rest by m to capacity) where
@@ -50,8 +50,8 @@ module _ {r₀ : List ℕ} {rest : Rest} {by m to capacity : ℕ} (P : BindParts
     first : Wrote r₀ to capacity (replaced x (seg r₀ by m) (seg r₀ (rest .at) (rest .pending))) a r
     first = wrote-replaced x (seg r₀ by m) (seg r₀ (rest .at) (rest .pending)) tells room
 
-    pub pending-full : a ≡ Full → Wrote r₀ to capacity (pending-piece edition-one arities r₀ rest x by m) Full r
-    unfolding pending-piece
+    pub pending-full : a ≡ Full → Wrote r₀ to capacity (bound-pending edition-one arities r₀ rest x by m) Full r
+    unfolding bound-pending
     pending-full e = full-more _ (rw e at first)
 
     module _ (k : ℕ) (e : a ≡ Done k) where
@@ -65,22 +65,22 @@ module _ {r₀ : List ℕ} {rest : Rest} {by m to capacity : ℕ} (P : BindParts
 
       pub entries-written : {b : Copied} {r′ : List ℕ}
           → Wrote r (to + k) (capacity - k) (replaced x (seg r by m) (selection edition-one arities Entries x (seg r (rest .at + rest .pending) (rest .pile)))) b r′
-          → Wrote r₀ to capacity (pending-piece edition-one arities r₀ rest x by m) (further k b) r′
-      unfolding pending-piece
+          → Wrote r₀ to capacity (bound-pending edition-one arities r₀ rest x by m) (further k b) r′
+      unfolding bound-pending
       entries-written w =
           let s = unwritten to (first .out) (first .room) (omega arith) (omega (arith, first .within)) in
           wrote-more (rw e at first) (rw (s .value, s .pile) at w)
 
   -- ---- the bindings, then x's number and its value
 
-  pub length-last : (x : ℕ) → length (last-piece r₀ rest x by m) ≡ rest .bound + 1 + m
-  unfolding last-piece
+  pub length-last : (x : ℕ) → length (bound-bindings r₀ rest x by m) ≡ rest .bound + 1 + m
+  unfolding bound-bindings
   length-last x =
       let b : List ℕ = seg r₀ (rest .at + rest .pending + rest .pile) (rest .bound) in
       omega (arith, length-append b ((x - FIRST-UNKNOWN) ∷ seg r₀ by m), length-seg r₀ (rest .at + rest .pending + rest .pile) (rest .bound) (omega (arith, P .rest-within)), length-seg r₀ by m (P .by-within))
 
-  pub last-full : (x : ℕ) → capacity < rest .bound + 1 + m → Wrote r₀ to capacity (last-piece r₀ rest x by m) Full r₀
-  last-full x h = wrote-full r₀ to (last-piece r₀ rest x by m) (omega (arith, length-last x))
+  pub last-full : (x : ℕ) → capacity < rest .bound + 1 + m → Wrote r₀ to capacity (bound-bindings r₀ rest x by m) Full r₀
+  last-full x h = wrote-full r₀ to (bound-bindings r₀ rest x by m) (omega (arith, length-last x))
 
   module _ (h : rest .bound + 1 + m ≤ capacity) where
     pub bindings-parts : CopyParts r₀ (rest .at + rest .pending + rest .pile) (rest .bound) to
@@ -117,8 +117,8 @@ module _ {r₀ : List ℕ} {rest : Rest} {by m to capacity : ℕ} (P : BindParts
         abbrev start : List ℕ
         start = bindings ++ ((x - FIRST-UNKNOWN) ∷ [])
 
-        pub last-written : Wrote r₀ to capacity (last-piece r₀ rest x by m) (Done (rest .bound + 1 + m)) r₂
-        unfolding last-piece
+        pub last-written : Wrote r₀ to capacity (bound-bindings r₀ rest x by m) (Done (rest .bound + 1 + m)) r₂
+        unfolding bound-bindings
         last-written =
             let l = length-bindings in
             let k : length start ≡ rest .bound + 1 = length-append bindings ((x - FIRST-UNKNOWN) ∷ []) ∙ ap (λ (j : ℕ). j + 1) l in
@@ -126,4 +126,4 @@ module _ {r₀ : List ℕ} {rest : Rest} {by m to capacity : ℕ} (P : BindParts
             let place : to + rest .bound + 1 ≡ to + length start = omega arith in
             let whole : r₂ ≡ put r₀ to (bindings ++ ((x - FIRST-UNKNOWN) ∷ seg r₀ by m)) =
             f ∙ rw (s .value, named, place, put-put start r₀ (seg r₀ by m) to, append-assoc) in
-            wrote-all (last-piece r₀ rest x by m) (length-last x) h whole
+            wrote-all (bound-bindings r₀ rest x by m) (length-last x) h whole

@@ -22,7 +22,7 @@ use Rattle.rows.specs.declared.parts.Made.{Made}
 use Rattle.rows.specs.declared.parts.Part.the-variants.{Entries, Others}
 use Rattle.rows.specs.Header.{header-of}
 use Rattle.rows.specs.Pile.{pile-append, chosen, selection-pile}
-use Rattle.rows.specs.Bind.{FinishParts, pending-piece, pile-piece, last-piece, bound-piece}
+use Rattle.rows.specs.Bind.{FinishParts, bound-pending, bound-pile, bound-bindings, bound-body}
 use Rattle.binding.specs.Keep.{kept-piece, kept-header}
 use Rattle.rows.specs.Finished.{Finished, bound-header}
 use Rattle.rows.specs.States.{pending-append, bindings-append, replaced-pending, replaced-entries, replaced-others}
@@ -41,18 +41,18 @@ module _ {arities : List ℕ} {k : ℕ} (worded : Worded edition-one arities k) 
   abbrev put-for : List ℕ → List ℕ
   put-for ws = replaced (FIRST-UNKNOWN + x) (words edition-one t) ws
 
-  pending-piece-is : pending-piece edition-one arities r₀ rest (FIRST-UNKNOWN + x) by m
+  bound-pending-is : bound-pending edition-one arities r₀ rest (FIRST-UNKNOWN + x) by m
       ≡ put-for (pending-words edition-one (st .pending)) ++ put-for (pile-words edition-one (entries x (st .pile)))
-  unfolding pending-piece edition-one chosen
-  pending-piece-is = rw (value .stands, R .pending, R .pile, selection-pile worded x Entries formed)
+  unfolding bound-pending edition-one chosen
+  bound-pending-is = rw (value .stands, R .pending, R .pile, selection-pile worded x Entries formed)
 
-  pile-piece-is : pile-piece edition-one arities r₀ rest (FIRST-UNKNOWN + x) by m ≡ put-for (pile-words edition-one (others x (st .pile)))
-  unfolding pile-piece edition-one chosen
-  pile-piece-is = rw (value .stands, R .pile, selection-pile worded x Others formed)
+  bound-pile-is : bound-pile edition-one arities r₀ rest (FIRST-UNKNOWN + x) by m ≡ put-for (pile-words edition-one (others x (st .pile)))
+  unfolding bound-pile edition-one chosen
+  bound-pile-is = rw (value .stands, R .pile, selection-pile worded x Others formed)
 
-  last-piece-is : last-piece r₀ rest (FIRST-UNKNOWN + x) by m ≡ binding-words edition-one (st .bindings) ++ (x ∷ words edition-one t)
-  unfolding last-piece
-  last-piece-is = let e : FIRST-UNKNOWN + x - FIRST-UNKNOWN ≡ x = omega arith in rw (value .stands, R .bound, e)
+  bound-bindings-is : bound-bindings r₀ rest (FIRST-UNKNOWN + x) by m ≡ binding-words edition-one (st .bindings) ++ (x ∷ words edition-one t)
+  unfolding bound-bindings
+  bound-bindings-is = let e : FIRST-UNKNOWN + x - FIRST-UNKNOWN ≡ x = omega arith in rw (value .stands, R .bound, e)
 
   module _ {to written lent next : ℕ} (P : FinishParts r₀ rest by m to written lent (FIRST-UNKNOWN + x) next) (ds : List Equation)
       (new : seg r₀ (to + HEADER) written ≡ put-for (pending-words edition-one ds)) where
@@ -60,10 +60,10 @@ module _ {arities : List ℕ} {k : ℕ} (worded : Worded edition-one arities k) 
     child = bound-state x t (ahead ds next st)
 
     -- the child's pending equations, those that are written and the piece
-    pending-is : put-for (pending-words edition-one ds) ++ pending-piece edition-one arities r₀ rest (FIRST-UNKNOWN + x) by m ≡ pending-words edition-one (child .pending)
+    pending-is : put-for (pending-words edition-one ds) ++ bound-pending edition-one arities r₀ rest (FIRST-UNKNOWN + x) by m ≡ pending-words edition-one (child .pending)
     unfolding bound-state ahead edition-one
     pending-is =
-        rw pending-piece-is
+        rw bound-pending-is
         (sym (append-assoc (put-for (pending-words edition-one ds)) (put-for (pending-words edition-one (st .pending))) (put-for (pile-words edition-one (entries x (st .pile)))))
         ∙ rw (
           ← replaced-append (FIRST-UNKNOWN + x) (words edition-one t) (pending-words edition-one ds) (pending-words edition-one (st .pending)),
@@ -73,34 +73,34 @@ module _ {arities : List ℕ} {k : ℕ} (worded : Worded edition-one arities k) 
         )
         (sym (pending-append edition-one (map (replace-in x t) (ds ++ st .pending)) (map (released x t) (entries x (st .pile))))))
 
-    pile-is : pile-piece edition-one arities r₀ rest (FIRST-UNKNOWN + x) by m ≡ pile-words edition-one (child .pile)
+    pile-is : bound-pile edition-one arities r₀ rest (FIRST-UNKNOWN + x) by m ≡ pile-words edition-one (child .pile)
     unfolding bound-state ahead edition-one
-    pile-is = pile-piece-is ∙ replaced-others edition-one-unknowns-first h t (st .pile)
+    pile-is = bound-pile-is ∙ replaced-others edition-one-unknowns-first h t (st .pile)
 
-    bindings-is : last-piece r₀ rest (FIRST-UNKNOWN + x) by m ≡ binding-words edition-one (child .bindings)
+    bindings-is : bound-bindings r₀ rest (FIRST-UNKNOWN + x) by m ≡ binding-words edition-one (child .bindings)
     unfolding bound-state ahead binding-words
-    bindings-is = last-piece-is ∙ sym (bindings-append edition-one (st .bindings) (record { name = x; value = t } ∷ []) ∙ rw append-nil)
+    bindings-is = bound-bindings-is ∙ sym (bindings-append edition-one (st .bindings) (record { name = x; value = t } ∷ []) ∙ rw append-nil)
 
-    body-is : put-for (pending-words edition-one ds) ++ bound-piece edition-one arities r₀ rest (FIRST-UNKNOWN + x) by m ≡ state-words edition-one child
-    unfolding bound-piece state-words
+    body-is : put-for (pending-words edition-one ds) ++ bound-body edition-one arities r₀ rest (FIRST-UNKNOWN + x) by m ≡ state-words edition-one child
+    unfolding bound-body state-words
     body-is =
-        sym (append-assoc (put-for (pending-words edition-one ds)) (pending-piece edition-one arities r₀ rest (FIRST-UNKNOWN + x) by m) (pile-piece edition-one arities r₀ rest (FIRST-UNKNOWN + x) by m ++ last-piece r₀ rest (FIRST-UNKNOWN + x) by m))
+        sym (append-assoc (put-for (pending-words edition-one ds)) (bound-pending edition-one arities r₀ rest (FIRST-UNKNOWN + x) by m) (bound-pile edition-one arities r₀ rest (FIRST-UNKNOWN + x) by m ++ bound-bindings r₀ rest (FIRST-UNKNOWN + x) by m))
         ∙ rw (pending-is, pile-is, bindings-is)
 
-    header-is : header-of (bound-header rest (written + length (pending-piece edition-one arities r₀ rest (FIRST-UNKNOWN + x) by m)) (length (pile-piece edition-one arities r₀ rest (FIRST-UNKNOWN + x) by m)) m next)
+    header-is : header-of (bound-header rest (written + length (bound-pending edition-one arities r₀ rest (FIRST-UNKNOWN + x) by m)) (length (bound-pile edition-one arities r₀ rest (FIRST-UNKNOWN + x) by m)) m next)
         ≡ header-of (header-for child)
     unfolding header-of bound-header header-for state-size bound-state ahead
     header-is =
-        let A : List ℕ = pending-piece edition-one arities r₀ rest (FIRST-UNKNOWN + x) by m in
+        let A : List ℕ = bound-pending edition-one arities r₀ rest (FIRST-UNKNOWN + x) by m in
         let N : List ℕ = put-for (pending-words edition-one ds) in
         let B : List ℕ = binding-words edition-one (st .bindings) in
         let pending : written + length A ≡ size-equations (child .pending) =
         omega (arith, length-append N A, ap length new, length-seg r₀ (to + HEADER) written (omega (arith, P .parts .to-within, P .written-within)), ap length pending-is, length-pending edition-one (child .pending)) in
-        let pile : length (pile-piece edition-one arities r₀ rest (FIRST-UNKNOWN + x) by m) ≡ size-entries (child .pile) = ap length pile-is ∙ length-pile edition-one (child .pile) in
+        let pile : length (bound-pile edition-one arities r₀ rest (FIRST-UNKNOWN + x) by m) ≡ size-entries (child .pile) = ap length pile-is ∙ length-pile edition-one (child .pile) in
         let bound : rest .bound + 1 + m ≡ size-bindings (child .bindings) =
         omega (
           arith,
-          ap length last-piece-is,
+          ap length bound-bindings-is,
           ap length bindings-is,
           length-bindings edition-one (child .bindings),
           length-append B (x ∷ words edition-one t),
@@ -114,8 +114,8 @@ module _ {arities : List ℕ} {k : ℕ} (worded : Worded edition-one arities k) 
         rw (pending, pile, bound, bindings)
 
     pub finish-makes : {a : Made} {r : List ℕ}
-        → Finished r₀ to written lent (bound-piece edition-one arities r₀ rest (FIRST-UNKNOWN + x) by m)
-        (header-of (bound-header rest (written + length (pending-piece edition-one arities r₀ rest (FIRST-UNKNOWN + x) by m)) (length (pile-piece edition-one arities r₀ rest (FIRST-UNKNOWN + x) by m)) m next)) a r
+        → Finished r₀ to written lent (bound-body edition-one arities r₀ rest (FIRST-UNKNOWN + x) by m)
+        (header-of (bound-header rest (written + length (bound-pending edition-one arities r₀ rest (FIRST-UNKNOWN + x) by m)) (length (bound-pile edition-one arities r₀ rest (FIRST-UNKNOWN + x) by m)) m next)) a r
         → next ≤ edition-one .path-unknowns → Makes edition-one r₀ to lent (live child) a r
     unfolding bound-state ahead
     finish-makes F few =
@@ -127,27 +127,27 @@ module _ {arities : List ℕ} {k : ℕ} (worded : Worded edition-one arities k) 
     abbrev heir : State
     heir = noted x t (remade [] (map (kept x t) (others x (st .pile))) next st)
 
-    heir-pile : pile-piece edition-one arities r₀ rest (FIRST-UNKNOWN + x) by m ≡ pile-words edition-one (heir .pile)
+    heir-pile : bound-pile edition-one arities r₀ rest (FIRST-UNKNOWN + x) by m ≡ pile-words edition-one (heir .pile)
     unfolding edition-one
-    heir-pile = pile-piece-is ∙ replaced-others edition-one-unknowns-first h t (st .pile)
+    heir-pile = bound-pile-is ∙ replaced-others edition-one-unknowns-first h t (st .pile)
 
-    heir-bindings : last-piece r₀ rest (FIRST-UNKNOWN + x) by m ≡ binding-words edition-one (heir .bindings)
+    heir-bindings : bound-bindings r₀ rest (FIRST-UNKNOWN + x) by m ≡ binding-words edition-one (heir .bindings)
     unfolding binding-words
-    heir-bindings = last-piece-is ∙ sym (bindings-append edition-one (st .bindings) (record { name = x; value = t } ∷ []) ∙ rw append-nil)
+    heir-bindings = bound-bindings-is ∙ sym (bindings-append edition-one (st .bindings) (record { name = x; value = t } ∷ []) ∙ rw append-nil)
 
-    heir-body : pile-piece edition-one arities r₀ rest (FIRST-UNKNOWN + x) by m ++ last-piece r₀ rest (FIRST-UNKNOWN + x) by m ≡ state-words edition-one heir
+    heir-body : bound-pile edition-one arities r₀ rest (FIRST-UNKNOWN + x) by m ++ bound-bindings r₀ rest (FIRST-UNKNOWN + x) by m ≡ state-words edition-one heir
     unfolding state-words pending-words row sides
     heir-body = rw (heir-pile, heir-bindings)
 
-    heir-header : header-of (bound-header rest 0 (length (pile-piece edition-one arities r₀ rest (FIRST-UNKNOWN + x) by m)) m next) ≡ header-of (header-for heir)
+    heir-header : header-of (bound-header rest 0 (length (bound-pile edition-one arities r₀ rest (FIRST-UNKNOWN + x) by m)) m next) ≡ header-of (header-for heir)
     unfolding header-of bound-header header-for state-size size-equations
     heir-header =
         let B : List ℕ = binding-words edition-one (st .bindings) in
-        let pile : length (pile-piece edition-one arities r₀ rest (FIRST-UNKNOWN + x) by m) ≡ size-entries (heir .pile) = ap length heir-pile ∙ length-pile edition-one (heir .pile) in
+        let pile : length (bound-pile edition-one arities r₀ rest (FIRST-UNKNOWN + x) by m) ≡ size-entries (heir .pile) = ap length heir-pile ∙ length-pile edition-one (heir .pile) in
         let bound : rest .bound + 1 + m ≡ size-bindings (heir .bindings) =
         omega (
           arith,
-          ap length last-piece-is,
+          ap length bound-bindings-is,
           ap length heir-bindings,
           length-bindings edition-one (heir .bindings),
           length-append B (x ∷ words edition-one t),
@@ -161,8 +161,8 @@ module _ {arities : List ℕ} {k : ℕ} (worded : Worded edition-one arities k) 
         rw (pile, bound, bindings)
 
     pub finish-pile-makes : {a : Made} {r : List ℕ}
-        → Finished r₀ to 0 lent (pile-piece edition-one arities r₀ rest (FIRST-UNKNOWN + x) by m ++ last-piece r₀ rest (FIRST-UNKNOWN + x) by m)
-        (header-of (bound-header rest 0 (length (pile-piece edition-one arities r₀ rest (FIRST-UNKNOWN + x) by m)) m next)) a r
+        → Finished r₀ to 0 lent (bound-pile edition-one arities r₀ rest (FIRST-UNKNOWN + x) by m ++ bound-bindings r₀ rest (FIRST-UNKNOWN + x) by m)
+        (header-of (bound-header rest 0 (length (bound-pile edition-one arities r₀ rest (FIRST-UNKNOWN + x) by m)) m next)) a r
         → next ≤ edition-one .path-unknowns → Makes edition-one r₀ to lent (live heir) a r
     finish-pile-makes F few =
         finished-makes edition-one heir [] (rw heir-header at F) (omega (arith, P .parts .to-within)) (P .written-within) (seg-zero r₀ (to + HEADER)) heir-body few

@@ -4,7 +4,7 @@ ghost use Rattle.terms.specs.Bounds.{edition-one, FIRST-UNKNOWN};
 ghost use Rattle.rows.specs.Wrote.{Wrote};
 ghost use mathlib.Core.List.{_++_};
 ghost use lib.ListN.{length};
-ghost use Rattle.rows.specs.Bind.{BindParts, FinishParts, pending-piece, pile-piece, last-piece, bound-piece};
+ghost use Rattle.rows.specs.Bind.{BindParts, FinishParts, bound-pending, bound-pile, bound-bindings, bound-body};
 ghost use Rattle.rows.specs.Header.{header-of};
 ghost use Rattle.rows.specs.Made.{of-sized};
 ghost use Rattle.rows.specs.Finished.{Finished, bound-header};
@@ -30,7 +30,7 @@ fn bind_pending(
     capacity: usize,
 ) -> Copied
     requires { ⌜ BindParts (now room) rest by m to capacity ⌝ }
-    ensures { λ r. ⌜ Wrote (now (room .entry)) to capacity (pending-piece edition-one (now (arities .entry)) (now (room .entry)) rest x by m) r (now (room .exit)) ⌝ }
+    ensures { λ r. ⌜ Wrote (now (room .entry)) to capacity (bound-pending edition-one (now (arities .entry)) (now (room .entry)) rest x by m) r (now (room .exit)) ⌝ }
 {
     let at = rest.at;
     let n = rest.pending;
@@ -66,7 +66,7 @@ fn bind_last(
     capacity: usize,
 ) -> Copied
     requires { ⌜ BindParts (now room) rest by m to capacity × FIRST-UNKNOWN ≤ x ⌝ }
-    ensures { λ r. ⌜ Wrote (now (room .entry)) to capacity (last-piece (now (room .entry)) rest x by m) r (now (room .exit)) ⌝ }
+    ensures { λ r. ⌜ Wrote (now (room .entry)) to capacity (bound-bindings (now (room .entry)) rest x by m) r (now (room .exit)) ⌝ }
 {
     let at = rest.at + rest.pending + rest.pile;
     let n = rest.bound;
@@ -93,7 +93,7 @@ fn finish_bindings(
     next: usize,
 ) -> Sized
     requires { ⌜ FinishParts (now room) rest by m to (pending + pile) size x next ⌝ }
-    ensures { λ r. ⌜ Finished (now (room .entry)) to (pending + pile) size (last-piece (now (room .entry)) rest x by m) (header-of (bound-header rest pending pile m next)) (of-sized r) (now (room .exit)) ⌝ }
+    ensures { λ r. ⌜ Finished (now (room .entry)) to (pending + pile) size (bound-bindings (now (room .entry)) rest x by m) (header-of (bound-header rest pending pile m next)) (of-sized r) (now (room .exit)) ⌝ }
 {
     let start = pending + pile;
     match bind_last(room, rest, x, by, m, to + HEADER + start, size - start) {
@@ -131,7 +131,7 @@ pub fn finish_pile(
     next: usize,
 ) -> Sized
     requires { ⌜ FinishParts (now room) rest by m to pending size x next ⌝ }
-    ensures { λ r. ⌜ Finished (now (room .entry)) to pending size (pile-piece edition-one (now (arities .entry)) (now (room .entry)) rest x by m ++ last-piece (now (room .entry)) rest x by m) (header-of (bound-header rest pending (length (pile-piece edition-one (now (arities .entry)) (now (room .entry)) rest x by m)) m next)) (of-sized r) (now (room .exit)) ⌝ }
+    ensures { λ r. ⌜ Finished (now (room .entry)) to pending size (bound-pile edition-one (now (arities .entry)) (now (room .entry)) rest x by m ++ bound-bindings (now (room .entry)) rest x by m) (header-of (bound-header rest pending (length (bound-pile edition-one (now (arities .entry)) (now (room .entry)) rest x by m)) m next)) (of-sized r) (now (room .exit)) ⌝ }
 {
     let at = rest.at + rest.pending;
     match replace_others(
@@ -164,7 +164,7 @@ pub fn finish(
     next: usize,
 ) -> Sized
     requires { ⌜ FinishParts (now room) rest by m to written size x next ⌝ }
-    ensures { λ r. ⌜ Finished (now (room .entry)) to written size (bound-piece edition-one (now (arities .entry)) (now (room .entry)) rest x by m) (header-of (bound-header rest (written + length (pending-piece edition-one (now (arities .entry)) (now (room .entry)) rest x by m)) (length (pile-piece edition-one (now (arities .entry)) (now (room .entry)) rest x by m)) m next)) (of-sized r) (now (room .exit)) ⌝ }
+    ensures { λ r. ⌜ Finished (now (room .entry)) to written size (bound-body edition-one (now (arities .entry)) (now (room .entry)) rest x by m) (header-of (bound-header rest (written + length (bound-pending edition-one (now (arities .entry)) (now (room .entry)) rest x by m)) (length (bound-pile edition-one (now (arities .entry)) (now (room .entry)) rest x by m)) m next)) (of-sized r) (now (room .exit)) ⌝ }
 {
     match bind_pending(
         arities,

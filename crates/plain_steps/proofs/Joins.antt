@@ -13,7 +13,7 @@ use Rattle.rows.specs.declared.parts.Made.{Made}
 use Rattle.rows.specs.declared.parts.Made.the-variants.{Dead, Names}
 use Rattle.rows.specs.Header.{header-of}
 use Rattle.rows.specs.HeldWords.{holds}
-use Rattle.rows.specs.Bind.{FinishParts, pile-piece, last-piece}
+use Rattle.rows.specs.Bind.{FinishParts, bound-pile, bound-bindings}
 use Rattle.rows.specs.Finished.{Finished, bound-header}
 use Rattle.plain_steps.specs.Join.{gathered, length-gathered}
 use Rattle.plain_steps.specs.JoinLaid.{JoinParts, joining-word, joining-words, valued, Joined}
@@ -98,8 +98,8 @@ module _ (arities : List ℕ) {r₀ : List ℕ} {rest : Rest} {value to size nex
 
     pub joined-live : {c : Bool} → c ≡ holds x (take (value + m - value) (drop value r)) → c ≡ false → next < PATH-UNKNOWNS → {a : Made} {r′ : List ℕ}
         → Finished (set r (value + m) (FIRST-UNKNOWN + next)) to 0 size
-        (pile-piece edition-one arities (set r (value + m) (FIRST-UNKNOWN + next)) rest x value (m + 1) ++ last-piece (set r (value + m) (FIRST-UNKNOWN + next)) rest x value (m + 1))
-        (header-of (bound-header rest 0 (length (pile-piece edition-one arities (set r (value + m) (FIRST-UNKNOWN + next)) rest x value (m + 1))) (m + 1) (next + 1))) a r′
+        (bound-pile edition-one arities (set r (value + m) (FIRST-UNKNOWN + next)) rest x value (m + 1) ++ bound-bindings (set r (value + m) (FIRST-UNKNOWN + next)) rest x value (m + 1))
+        (header-of (bound-header rest 0 (length (bound-pile edition-one arities (set r (value + m) (FIRST-UNKNOWN + next)) rest x value (m + 1))) (m + 1) (next + 1))) a r′
         → Joined arities r₀ rest value to size next a r′
     unfolding joining-word joining-words
     joined-live p q l F =

@@ -14,7 +14,7 @@ use Rattle.rows.specs.declared.parts.Made.{Made}
 use Rattle.rows.specs.declared.parts.Made.the-variants.{Dead, Names}
 use Rattle.rows.specs.Header.{header-of}
 use Rattle.rows.specs.HeldWords.{holds}
-use Rattle.rows.specs.Bind.{BindParts, pile-piece, last-piece}
+use Rattle.rows.specs.Bind.{BindParts, bound-pile, bound-bindings}
 use Rattle.rows.specs.Finished.{Finished, bound-header}
 use Rattle.plain_steps.specs.Join.{gathered}
 
@@ -44,8 +44,8 @@ pub record Joined (arities r₀ : List ℕ) (rest : Rest) (value to size next : 
   pub names : holds (joining-word r₀ rest) (joining-words arities r₀ rest) ≡ false → PATH-UNKNOWNS ≤ next → (a ≡ Names) × (r ≡ put r₀ value (joining-words arities r₀ rest))
   pub live : holds (joining-word r₀ rest) (joining-words arities r₀ rest) ≡ false → next < PATH-UNKNOWNS
       → Finished (valued arities r₀ rest value next) to 0 size
-      (pile-piece edition-one arities (valued arities r₀ rest value next) rest (joining-word r₀ rest) value (length (joining-words arities r₀ rest) + 1)
-      ++ last-piece (valued arities r₀ rest value next) rest (joining-word r₀ rest) value (length (joining-words arities r₀ rest) + 1))
+      (bound-pile edition-one arities (valued arities r₀ rest value next) rest (joining-word r₀ rest) value (length (joining-words arities r₀ rest) + 1)
+      ++ bound-bindings (valued arities r₀ rest value next) rest (joining-word r₀ rest) value (length (joining-words arities r₀ rest) + 1))
       (header-of (bound-header rest 0
-      (length (pile-piece edition-one arities (valued arities r₀ rest value next) rest (joining-word r₀ rest) value (length (joining-words arities r₀ rest) + 1)))
+      (length (bound-pile edition-one arities (valued arities r₀ rest value next) rest (joining-word r₀ rest) value (length (joining-words arities r₀ rest) + 1)))
       (length (joining-words arities r₀ rest) + 1) (next + 1))) a r

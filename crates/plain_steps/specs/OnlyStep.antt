@@ -27,7 +27,7 @@ use Rattle.rows.specs.declared.parts.Made.{Made}
 use Rattle.rows.specs.declared.parts.Made.the-variants as made
 use Rattle.rows.specs.declared.first.Subject.{Subject}
 use Rattle.rows.specs.Header.{header-of}
-use Rattle.rows.specs.Bind.{FinishParts, pending-piece, pile-piece, bound-piece}
+use Rattle.rows.specs.Bind.{FinishParts, bound-pending, bound-pile, bound-body}
 use Rattle.binding.specs.Keep.{kept-piece, kept-header}
 use Rattle.rows.specs.Finished.{Finished, bound-header}
 use Rattle.rows.specs.Row.{Makes, Beside, header-for, becomes}
@@ -135,8 +135,8 @@ module _ {arities l : List ℕ} {from to scratch lent right end next : ℕ} {res
   bind-arm-parts q = let v = binding (view _ q) in rw (S .rest-is, S .next-is) (bind-first-parts H (S .cut) (at-subject (v .sided)) (small (v .sided)))
 
   pub bind-arm : {k : Tails} {a : Made} {r : List ℕ} {node : Node} → step ≡ Bind k
-      → Finished l to 0 lent (bound-piece edition-one arities l rest (s .x) (s .by) (s .m))
-      (header-of (bound-header rest (0 + length (pending-piece edition-one arities l rest (s .x) (s .by) (s .m))) (length (pile-piece edition-one arities l rest (s .x) (s .by) (s .m))) (s .m) next)) a r
+      → Finished l to 0 lent (bound-body edition-one arities l rest (s .x) (s .by) (s .m))
+      (header-of (bound-header rest (0 + length (bound-pending edition-one arities l rest (s .x) (s .by) (s .m))) (length (bound-pile edition-one arities l rest (s .x) (s .by) (s .m))) (s .m) next)) a r
       → children.take step (e .left) (e .right) (pend es st) ≡ node ∷ [] → Makes edition-one l to lent node a r
   unfolding bound
   bind-arm {k} {node = node} q F o =

@@ -18,7 +18,7 @@ use Rattle.rows.specs.declared.parts.Rest.{Rest}
 use Rattle.rows.specs.declared.parts.Made.{Made}
 use Rattle.rows.specs.declared.first.Subject.{Subject}
 use Rattle.rows.specs.Header.{header-of}
-use Rattle.rows.specs.Bind.{FinishParts, pending-piece, pile-piece, bound-piece}
+use Rattle.rows.specs.Bind.{FinishParts, bound-pending, bound-pile, bound-body}
 use Rattle.binding.specs.Keep.{kept-piece, kept-header}
 use Rattle.rows.specs.Finished.{Finished, bound-header, finish-long}
 use Rattle.rows.specs.Row.{Rested, Makes, Beside, beside-aside, finished-beside, header-for}
@@ -112,8 +112,8 @@ module _ {arities r₀ : List ℕ} {from to scratch lent : ℕ} {st : State} (H 
     bind-first-parts = single-parts subject-within subject-apart 0 (s .x) (omega arith) (omega (arith, A .word))
 
     pub bind-made : {a : Made} {r : List ℕ}
-        → Finished r₀ to 0 lent (bound-piece edition-one arities r₀ rest (s .x) (s .by) (s .m))
-        (header-of (bound-header rest (0 + length (pending-piece edition-one arities r₀ rest (s .x) (s .by) (s .m))) (length (pile-piece edition-one arities r₀ rest (s .x) (s .by) (s .m))) (s .m) (st .next))) a r
+        → Finished r₀ to 0 lent (bound-body edition-one arities r₀ rest (s .x) (s .by) (s .m))
+        (header-of (bound-header rest (0 + length (bound-pending edition-one arities r₀ rest (s .x) (s .by) (s .m))) (length (bound-pile edition-one arities r₀ rest (s .x) (s .by) (s .m))) (s .m) (st .next))) a r
         → Makes edition-one r₀ to lent (live (bound-state x t (pend es st))) a r
     unfolding ahead pend
     bind-made F =

@@ -17,7 +17,7 @@ use Rattle.search.specs.StateWords.{pending-words}
 use Rattle.rows.specs.declared.parts.Rest.{Rest}
 use Rattle.rows.specs.declared.parts.Made.{Made}
 use Rattle.rows.specs.declared.header.Header.{Header}
-use Rattle.rows.specs.Bind.{FinishParts, pending-piece, pile-piece, bound-piece}
+use Rattle.rows.specs.Bind.{FinishParts, bound-pending, bound-pile, bound-body}
 use Rattle.rows.specs.Header.{header-of}
 use Rattle.rows.specs.Finished.{Finished, bound-header}
 use Rattle.rows.specs.First.{header-in, HeaderParts, rest-after, header-in-words, holds-rest}
@@ -117,8 +117,8 @@ module _ {arities l : List ℕ} {between x by m to lent next : ℕ} {st : State}
           })
 
       pub again-made : {a : Made} {r : List ℕ}
-          → Finished l to 0 lent (bound-piece edition-one arities l rest x by m)
-          (header-of (bound-header rest (0 + length (pending-piece edition-one arities l rest x by m)) (length (pile-piece edition-one arities l rest x by m)) m next)) a r
+          → Finished l to 0 lent (bound-body edition-one arities l rest x by m)
+          (header-of (bound-header rest (0 + length (bound-pending edition-one arities l rest x by m)) (length (bound-pile edition-one arities l rest x by m)) m next)) a r
           → Makes edition-one l to lent (live (bound-state name value st)) a r
       unfolding edition-one pending-words row sides
       again-made F =

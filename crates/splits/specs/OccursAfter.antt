@@ -16,7 +16,7 @@ use Rattle.terms.specs.Flat.{length-words, size-positive}
 use Rattle.search.specs.State.{State, Entry, size-entries, state-size}
 use Rattle.search.specs.Children.{entries, others, bound-state}
 use Rattle.search.specs.StateWords.{pending-words, pile-words, state-words, length-state, length-pending, length-pile, length-bindings}
-use Rattle.rows.specs.States.{bound-body}
+use Rattle.rows.specs.States.{bound-state-words}
 
 regroup : (a b c d e : Bool) → ((a || (b && e)) || (c || (d && e))) ≡ ((a || c) || ((b || d) && e))
 regroup true b c d e = refl
@@ -68,7 +68,7 @@ module _ (x : ℕ) (h : x < FIRST-UNKNOWN) (t : Term) (st : State) where
       let E : List ℕ = pile-words edition-one (entries x (st .pile)) in
       let O : List ℕ = pile-words edition-one (others x (st .pile)) in
       let B : List ℕ = binding-words edition-one (st .bindings) in
-      let whole : length ((f A ++ f E) ++ (f O ++ (B ++ (x ∷ words edition-one t)))) ≡ length (state-words edition-one (bound-state x t st)) = ap length (bound-body edition-one-unknowns-first h t st) in
+      let whole : length ((f A ++ f E) ++ (f O ++ (B ++ (x ∷ words edition-one t)))) ≡ length (state-words edition-one (bound-state x t st)) = ap length (bound-state-words edition-one-unknowns-first h t st) in
       let total = length-state edition-one (bound-state x t st) in
       let one = length-append (f A ++ f E) (f O ++ (B ++ (x ∷ words edition-one t))) in
       let two = length-append (f A) (f E) in

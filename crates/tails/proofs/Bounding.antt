@@ -20,7 +20,7 @@ use Rattle.search.specs.StateWords.{pending-words, length-pending}
 use Rattle.rows.specs.declared.parts.Rest.{Rest}
 use Rattle.rows.specs.declared.parts.Made.{Made}
 use Rattle.rows.specs.declared.parts.Made.the-variants.{Dead, Large}
-use Rattle.rows.specs.Bind.{FinishParts, pending-piece, pile-piece, bound-piece}
+use Rattle.rows.specs.Bind.{FinishParts, bound-pending, bound-pile, bound-body}
 use Rattle.rows.specs.HeldWords.{holds, holds-words}
 use Rattle.rows.specs.Header.{header-of}
 use Rattle.rows.specs.Finished.{Finished, bound-header}
@@ -114,8 +114,8 @@ module _ {arities l : List ℕ} {from : ℕ} {rest : Rest} {sides : Sides} {x by
         }
 
     pub bound-made : {a : Made} {q : List ℕ}
-        → Finished r to w lent (bound-piece edition-one arities r rest x by m)
-        (header-of (bound-header rest (w + length (pending-piece edition-one arities r rest x by m)) (length (pile-piece edition-one arities r rest x by m)) m next)) a q
+        → Finished r to w lent (bound-body edition-one arities r rest x by m)
+        (header-of (bound-header rest (w + length (bound-pending edition-one arities r rest x by m)) (length (bound-pile edition-one arities r rest x by m)) m next)) a q
         → Makes edition-one l to lent (bound-child p next name value) a q
     unfolding bound-child edition-one
     bound-made F =
