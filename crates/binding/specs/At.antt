@@ -18,12 +18,13 @@ use Rattle.terms.specs.Formed.{Equation, Formed, sides, row}
 use mathlib.Core.Bool.{true, false}
 use Rattle.terms.specs.Answers.{Binding}
 use Rattle.terms.specs.Flat.{size-positive, length-words}
-use Rattle.search.specs.State.{State, pend, size-equations, size-entries, size-bindings, state-size}
+use Rattle.search.specs.State.{State, pend, size-equations, size-bindings, state-size}
 use Rattle.search.specs.Classify.{classify}
 use Rattle.search.specs.StepView.{Sided, as-written, turned-round}
 use Rattle.search.specs.StateWords.{pending-words}
 use Rattle.search.specs.RunLimits.{most-size}
 use Rattle.rows.specs.declared.parts.Rest.{Rest}
+use Rattle.rows.specs.Sections.{sections-fit}
 use Rattle.rows.specs.Bind.{BindParts, FinishParts}
 use Rattle.rows.specs.Row.{Holds, Rested, header-for}
 use Rattle.rows.specs.declared.first.Subject.{Subject}
@@ -76,7 +77,7 @@ module _ {arities l : List ℕ} {from to scratch lent : ℕ} {st : State} (H : H
   unfolding rest-after header-for state-size
   bind-parts {by} {m} h a =
       let s = cut-sizes (H .holds) ds es cut in
-      let f : size-equations (st .pending) + size-entries (st .pile) + size-bindings (st .bindings) ≤ lent = H .fits in
+      let f = sections-fit st (H .fits) in
       let r = H .rows in
       record {
         rest-within = omega arith;
@@ -92,7 +93,7 @@ module _ {arities l : List ℕ} {from to scratch lent : ℕ} {st : State} (H : H
   unfolding rest-after header-for state-size
   rest-room =
       let s = cut-sizes (H .holds) ds es cut in
-      let f : size-equations (st .pending) + size-entries (st .pile) + size-bindings (st .bindings) ≤ lent = H .fits in
+      let f = sections-fit st (H .fits) in
       omega (arith, H .rows .row)
 
   pub finish-parts : {by m : ℕ} → Within l by m → Apart by m to (HEADER + lent) → (written x next : ℕ) → written ≤ lent → FIRST-UNKNOWN ≤ x → next < 65536 → FinishParts l rest by m to written lent x next
@@ -103,7 +104,7 @@ module _ {arities l : List ℕ} {from to scratch lent : ℕ} {st : State} (H : H
     size-small = H .rows .lent-small;
     unknown = u;
     bindings-small =
-        let f : size-equations (st .pending) + size-entries (st .pile) + size-bindings (st .bindings) ≤ lent = H .fits in
+        let f = sections-fit st (H .fits) in
         omega (arith, few-bindings (st .bindings), H .rows .lent-small);
     next-small = n;
   }
@@ -166,8 +167,7 @@ module _ {l : List ℕ} {from : ℕ} {st : State} (holds : Holds edition-one l f
 
 module _ {arities l : List ℕ} {from to scratch lent : ℕ} {st : State} (H : Held arities l from to scratch lent st) {e : Equation} {es : List Equation} (cut : st .pending ≡ e ∷ es) where
   pub sides-within : from + HEADER + (size (e .left) + size (e .right)) ≤ to
-  unfolding state-size
-  sides-within = let f : size-equations (st .pending) + size-entries (st .pile) + size-bindings (st .bindings) ≤ lent = H .fits in omega (arith, first-size st cut, H .rows .row)
+  sides-within = let f = sections-fit st (H .fits) in omega (arith, first-size st cut, H .rows .row)
 
   -- ---- an unknown and a term
 

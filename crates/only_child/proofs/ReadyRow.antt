@@ -9,12 +9,13 @@ use Rattle.room.specs.Room.{seg}
 use Rattle.room.specs.Layout.{HEADER, stride, aside-row}
 use Rattle.terms.specs.Formed.{Equation, row}
 use Rattle.terms.specs.Flat.{size-positive}
-use Rattle.search.specs.State.{State, pend, size-equations, size-entries, size-bindings, state-size}
+use Rattle.search.specs.State.{State, pend, size-equations, state-size}
 use Rattle.search.specs.Classify.{classify}
 use Rattle.search.specs.Children.{children, children-by}
 use Rattle.search.specs.Children as search
 use Rattle.rows.specs.declared.header.Header.{Header}
 use Rattle.binding.specs.At.{Held}
+use Rattle.rows.specs.Sections.{sections-fit}
 use Rattle.rows.specs.First.{header-in, header-in-words, HeaderParts}
 use Rattle.rows.specs.Row.{header-for, Beside}
 use Rattle.only_child.specs.Next.{Ready, same-part}
@@ -67,8 +68,7 @@ module _ {arities l : List ℕ} {at number lent scratch most : ℕ} {st : State}
 
   -- the words of the pending equations end before the scratch rows
   pub pending-within : at + HEADER + size-equations (st .pending) ≤ scratch
-  unfolding state-size
-  pending-within = let f : size-equations (st .pending) + size-entries (st .pile) + size-bindings (st .bindings) ≤ lent = R .fits in omega (arith, R .row)
+  pending-within = omega (arith, sections-fit st (R .fits), R .row)
 
   pub rest-parts : (skip : ℕ) → skip ≤ size-equations (st .pending) → HeaderParts at (header-for st) skip
   unfolding header-for state-size

@@ -14,6 +14,7 @@ use Rattle.search.specs.Children.{children}
 use Rattle.search.specs.Children as steps
 use Rattle.search.specs.declared.steps.Tails.{Tails}
 use Rattle.rows.specs.declared.parts.Rest.{Rest}
+use Rattle.rows.specs.Sections.{sections-fit}
 use Rattle.rows.specs.Row.{Rested, header-for}
 use Rattle.rows.specs.First.{rest-after, holds-rest}
 use Rattle.binding.specs.At.{sound-worded, first-formed, first-size, sides-stand, few-bindings}
@@ -43,8 +44,7 @@ module _ {arities l : List ℕ} {at : ℕ} {rest : Rest} {right end : ℕ} {kind
   sizes = first-size st (S .cut)
 
   body-fits : size-equations (st .pending) + size-entries (st .pile) + size-bindings (st .bindings) ≤ lent
-  unfolding state-size
-  body-fits = S .ready .fits
+  body-fits = sections-fit st (S .ready .fits)
 
   pub open-there : Open arities l at right end lent scratch (st .next) (e .left) (e .right)
   open-there = record {

@@ -11,11 +11,12 @@ use Rattle.room.specs.Layout.{stride, right-row, picks-row, sides-at}
 use Rattle.terms.specs.Term.{members, kernel, size}
 use Rattle.terms.specs.Shape.{is-unknown}
 use Rattle.terms.specs.Formed.{Equation}
-use Rattle.search.specs.State.{State, pend, size-equations, size-entries, size-bindings, state-size}
+use Rattle.search.specs.State.{State, pend, size-equations, state-size}
 use Rattle.search.specs.Classify.{classify}
 use Rattle.search.specs.declared.steps.Tails.{Tails}
 use Rattle.search.specs.declared.steps.Step.the-variants.{Split}
 use Rattle.rows.specs.declared.parts.Reached.the-variants.{Live}
+use Rattle.rows.specs.Sections.{sections-fit}
 use Rattle.search_laws.specs.ChoiceNumbers.{Digits}
 use Rattle.search_laws.specs.Picking.{radix}
 use Rattle.choices.specs.Digits.{copies}
@@ -74,9 +75,8 @@ pub record OpenedAt (arities l : List ℕ) (at lent scratch most : ℕ) : Type 0
 
 -- each side has fewer members than words, and both fit
 sides-fit : (lent : ℕ) (st : State) {e : Equation} {es : List Equation} → st .pending ≡ e ∷ es → state-size st ≤ lent → size (e .left) + size (e .right) ≤ lent
-unfolding state-size size-equations
-sides-fit lent st cut h =
-    let f : size-equations (st .pending) + size-entries (st .pile) + size-bindings (st .bindings) ≤ lent = h in omega (arith, ap size-equations cut)
+unfolding size-equations
+sides-fit lent st cut h = omega (arith, sections-fit st h, ap size-equations cut)
 
 pub shown-kept : {l r : List ℕ} {lent scratch : ℕ} {st : State} {last : ℕ} → seg r scratch (3 * stride lent) ≡ seg l scratch (3 * stride lent) → state-size st ≤ lent → Shown l lent scratch st last
     → Shown r lent scratch st last

@@ -14,11 +14,12 @@ use Rattle.terms.specs.Term.{Terms, functor, words, words*, size, size*, list, 
 use Rattle.terms.specs.Formed.{Equation, Formed, Formed*, formed-functor, formed-none, formed-more, row, sides}
 use Rattle.terms.specs.Flat.{length-words}
 use Rattle.terms.specs.Walk.{term-ends}
-use Rattle.search.specs.State.{State, live, pend, size-equations, size-entries, size-bindings, state-size}
+use Rattle.search.specs.State.{State, live, pend}
 use Rattle.search.specs.Children.{pairwise}
 use Rattle.search.specs.StateWords.{pending-words, pile-words}
 use Rattle.rows.specs.declared.parts.Rest.{Rest}
 use Rattle.rows.specs.declared.parts.Made.{Made}
+use Rattle.rows.specs.Sections.{sections-fit}
 use Rattle.rows.specs.Header.{header-of}
 use Rattle.rows.specs.Bind.{FinishParts}
 use Rattle.binding.specs.Keep.{kept-piece, kept-header}
@@ -117,8 +118,7 @@ module _ {arities r₀ : List ℕ} {from to scratch lent : ℕ} {st : State} (H 
       inside (formed-functor h f g) = (g, f)
 
   room : size (e .left) + size (e .right) ≤ lent
-  unfolding state-size
-  room = let f : size-equations (st .pending) + size-entries (st .pile) + size-bindings (st .bindings) ≤ lent = H .fits in omega (arith, first-size st cut)
+  room = omega (arith, sections-fit st (H .fits), first-size st cut)
 
   pub decompose-first-parts : DecomposeParts r₀ (rest H cut) left n right m to lent (st .next)
   decompose-first-parts =

@@ -15,13 +15,14 @@ use Rattle.terms.specs.Bounds.{edition-one, edition-one-proper, edition-one-unk
 use Rattle.terms.specs.Lists.{All, both, any, cases}
 use Rattle.terms.specs.Term.{Term, unknown, words, size, occurs, over}
 use Rattle.terms.specs.Substitution.{occurs-over}
-use Rattle.search.specs.State.{State, Node, dead, live, Entry, pend, renewed, size-equations, size-entries, size-bindings, state-size}
+use Rattle.search.specs.State.{State, Node, dead, live, Entry, pend, renewed, size-equations, size-entries, state-size}
 use Rattle.search.specs.Children.{bound-state, bound, joined, without}
 use Rattle.search.specs.PileEntries.{entries-others, others-others}
 use Rattle.search.specs.StateWords.{pile-words, length-pile}
 use Rattle.rows.specs.declared.parts.Rest.{Rest}
 use Rattle.rows.specs.declared.parts.Made.{Made}
 use Rattle.rows.specs.declared.parts.Made.the-variants.{Dead, Names, Live}
+use Rattle.rows.specs.Sections.{sections-fit}
 use Rattle.rows.specs.Bind.{FinishParts}
 use Rattle.rows.specs.HeldWords.{holds}
 use Rattle.rows.specs.Finished.{finish-long}
@@ -106,7 +107,7 @@ module _ {arities r₀ : List ℕ} {from to scratch lent : ℕ} {st : State} (H 
 
   pile-fits : rest .pile ≤ lent
   unfolding rest-after header-for state-size
-  pile-fits = let f : size-equations (st .pending) + size-entries (st .pile) + size-bindings (st .bindings) ≤ lent = H .fits in omega arith
+  pile-fits = omega (arith, sections-fit st (H .fits))
 
   rest-before : rest .at + (rest .pending + rest .pile + rest .bound) ≤ to
   unfolding size-equations

@@ -11,12 +11,13 @@ use Rattle.room.specs.Layout.{HEADER, stride}
 use Rattle.terms.specs.Bounds.{edition-one, FIRST-UNKNOWN}
 use Rattle.terms.specs.Term.{Term, words, size}
 use Rattle.terms.specs.Formed.{Equation, row, sides}
-use Rattle.search.specs.State.{State, Node, live, pend, piled, size-equations, size-entries, size-bindings, state-size}
+use Rattle.search.specs.State.{State, Node, live, pend, piled, size-equations, state-size}
 use Rattle.search.specs.Children.{bound-state}
 use Rattle.search.specs.StateWords.{pending-words, pile-words}
 use Rattle.rows.specs.declared.parts.Rest.{Rest}
 use Rattle.rows.specs.declared.parts.Made.{Made}
 use Rattle.rows.specs.declared.first.Subject.{Subject}
+use Rattle.rows.specs.Sections.{sections-fit}
 use Rattle.rows.specs.Header.{header-of}
 use Rattle.rows.specs.Bind.{FinishParts, bound-pending, bound-pile, bound-body}
 use Rattle.binding.specs.Keep.{kept-piece, kept-header}
@@ -131,7 +132,7 @@ module _ {arities r₀ : List ℕ} {from to scratch lent : ℕ} {st : State} (H 
     entry-small : s .m ≤ lent
     unfolding state-size
     entry-small =
-        let f : size-equations (st .pending) + size-entries (st .pile) + size-bindings (st .bindings) ≤ lent = H .fits in
+        let f = sections-fit st (H .fits) in
         omega (arith, A .after, A .before, first-size st cut)
 
     pub postpone-first-parts : PostponeParts r₀ rest s scratch to lent (st .next)
