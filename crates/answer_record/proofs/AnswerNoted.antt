@@ -14,7 +14,8 @@ use Rattle.rows.specs.First.{header-in}
 use Rattle.results.specs.declared.ran.Record.{Record}
 use Rattle.answer_record.specs.declared.Noted.{Noted}
 use Rattle.answer_record.specs.declared.Noted.the-variants.{Held, Space}
-use Rattle.answer_record.specs.Counts.{noted, listed-by, answer-in, with-answers, fits, note-by, held-by}
+use Rattle.counters.specs.Counted.{noted}
+use Rattle.answer_record.specs.Noting.{listed-by, answer-in, with-answers, fits, note-by, held-by}
 use Rattle.answer_record.specs.RowAnswer.{pending-none, pile-none, one-answer}
 
 single : (ws : List ℕ) → listed (ws ∷ []) ≡ ws

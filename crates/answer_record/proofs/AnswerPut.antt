@@ -7,7 +7,7 @@ use native.Mathlib.Numerals.{add-one}
 use lib.ListN.{length, take, drop, getD, set}
 use Rattle.room.specs.Room.{seg, put, length-seg}
 use Rattle.room.specs.Layout.{HEADER}
-use Rattle.answer_record.specs.Counts.{listed-by}
+use Rattle.answer_record.specs.Noting.{listed-by}
 
 pub part-length : (row : List ℕ) (n : ℕ) → HEADER + n ≤ length row → length (take (HEADER + n - HEADER) (drop HEADER row)) ≡ n
 unfolding seg

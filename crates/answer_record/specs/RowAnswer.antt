@@ -22,7 +22,7 @@ use Rattle.rows.specs.declared.header.Header.{Header}
 use Rattle.rows.specs.First.{header-in}
 use Rattle.rows.specs.Row.{Holds, header-for, header-words}
 use Rattle.results.specs.declared.ran.Record.{Record}
-use Rattle.answer_record.specs.Counts.{listed-by, answer-in, Notable}
+use Rattle.answer_record.specs.Noting.{listed-by, answer-in, Notable}
 
 -- ---- read from its header
 

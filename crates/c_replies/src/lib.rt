@@ -1,13 +1,12 @@
 // What an answer is told as to C: which status and which out numbers it gives. A granted call has status 0, its out numbers are written, and the place is
-// left alone; a refused one has the refusal's number for status, and the place alone is written. `mensorique_c` has the calls.
+// left alone; a refused one has the refusal's number for status, and the place alone is written. `c_verdicts` tells the answers of comparisons, and
+// `mensorique_c` has the calls.
 //
-// In specs/, `Replies` has the definitions, `RoomForC` the words of a run's room.
+// In specs/, `Replies` has the definitions.
 ghost use mathlib.Core.Path.{_≡_};
 ghost use mathlib.Core.List.{[], _∷_};
 ghost use Rattle.terms.specs.Refusal.{number};
-ghost use Rattle.c_replies.specs.Replies.{Replied, of-question, of-written, of-equality, of-solving, of-ran};
-use results::compared::Equality;
-use results::compared::Solving;
+ghost use Rattle.c_replies.specs.Replies.{Replied, of-question, of-written, of-ran};
 use results::ran::Ran;
 use results::read::Question;
 use results::written::Written;
@@ -16,7 +15,7 @@ use terms::refusal::Refusal;
 use terms::refusal::number_of;
 
 // A refusal's number, with its place written.
-fn tell_refusal(refusal: Refusal, place: &mut usize) -> u32
+pub fn tell_refusal(refusal: Refusal, place: &mut usize) -> u32
     ensures status { λ r. ⌜ r ≡ number (refusal .cause) ⌝ }
     ensures place { λ _. ⌜ now (place .exit) ≡ refusal .place ⌝ }
 {
@@ -58,38 +57,6 @@ pub fn tell_written(written: Written, length: &mut usize, place: &mut usize) -> 
             0
         }
         Written::Refused(refusal) => tell_refusal(refusal, place),
-    }
-}
-
-pub fn tell_equality(equality: Equality, equal: &mut u32, place: &mut usize) -> u32
-    ensures { λ r. ⌜ Replied (of-equality equality) r (now (equal .entry) ∷ []) (now (equal .exit) ∷ []) (now (place .entry)) (now (place .exit)) ⌝ }
-{
-    match equality {
-        Equality::Equal => {
-            *equal = 1;
-            0
-        }
-        Equality::Differ => {
-            *equal = 0;
-            0
-        }
-        Equality::Refused(refusal) => tell_refusal(refusal, place),
-    }
-}
-
-pub fn tell_solving(solving: Solving, solves: &mut u32, place: &mut usize) -> u32
-    ensures { λ r. ⌜ Replied (of-solving solving) r (now (solves .entry) ∷ []) (now (solves .exit) ∷ []) (now (place .entry)) (now (place .exit)) ⌝ }
-{
-    match solving {
-        Solving::Yes => {
-            *solves = 1;
-            0
-        }
-        Solving::No => {
-            *solves = 0;
-            0
-        }
-        Solving::Refused(refusal) => tell_refusal(refusal, place),
     }
 }
 

@@ -1,8 +1,8 @@
 // The entries as C calls them; include/mensorique.h declares them and is the caller's reference. Each takes what an entry of `mensorique` takes, with a
 // slice as a pointer and a length. A status comes back: 0, and the out numbers are written; or the refusal's number, and the place alone is written.
 //
-// Crate `c_replies` says which status and which out numbers an answer gives, and tells them. Its `CallsFromC` says what a call gives by the entry's own definition of what
-// was lent: the reply, and each buffer as the entry leaves it; and how many words a run's room has.
+// Crates `c_replies` and `c_verdicts` say which status and which out numbers an answer gives, and tell them; `c_room` how many words a run's room has. In specs/,
+// `CallsFromC` says what a call gives by the entry's own definition of what was lent: the reply, and each buffer as the entry leaves it.
 ghost use mathlib.Core.Path.{_≡_};
 ghost use mathlib.Core.List.{[], _∷_};
 ghost use lib.ListN.{length as len};
@@ -16,13 +16,13 @@ ghost use Rattle.writer.specs.Written.{question-written, list-written, text-of-
 ghost use Rattle.equality.specs.Answering.{equal-answer, solves-answer};
 ghost use Rattle.results.specs.Result.{told};
 ghost use Rattle.c_replies.specs.Replies.{Replied, of-equality, of-solving};
-ghost use Rattle.c_replies.specs.RoomForC.{room-words};
+ghost use Rattle.c_room.specs.RoomForC.{room-words};
 ghost use Rattle.mensorique_c.specs.CallsFromC.{ReadReplied, WriteReplied, RunReplied};
-use c_replies::tell_equality;
 use c_replies::tell_question;
 use c_replies::tell_ran;
-use c_replies::tell_solving;
 use c_replies::tell_written;
+use c_verdicts::tell_equality;
+use c_verdicts::tell_solving;
 use room::layout::HEADER;
 use room::layout::SPARE_ROWS;
 use search::limits::Limits;

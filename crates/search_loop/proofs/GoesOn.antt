@@ -17,7 +17,7 @@ use Rattle.search.specs.Children.{children}
 use Rattle.search.specs.RunLimits.{most-depth, most-size}
 use Rattle.search_laws.specs.Going.{Open, to-come}
 use Rattle.results.specs.declared.ran.Record.{Record}
-use Rattle.answer_record.specs.Counts.{counted}
+use Rattle.counters.specs.Counted.{counted}
 use Rattle.only_child.specs.Next.{dead-ends, Ready}
 use Rattle.search_loop.specs.ChildrenPassed.{to-come-deads, deads-pass}
 use Rattle.search_loop.specs.Path.{Row, Rows, a-row}

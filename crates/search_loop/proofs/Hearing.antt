@@ -13,7 +13,7 @@ use Rattle.search.specs.RunLimits.{most-steps}
 use Rattle.rows.specs.declared.parts.Reached.{Reached}
 use Rattle.rows.specs.declared.parts.Reached.the-variants.{Names as ManyNames, Large, Live}
 use Rattle.results.specs.declared.ran.Record.{Record}
-use Rattle.answer_record.specs.Counts.{counted}
+use Rattle.counters.specs.Counted.{counted}
 use Rattle.only_child.specs.declared.next.Looked.{Looked}
 use Rattle.only_child.specs.declared.next.Next.the-variants.{Spent, Node as Found, Due}
 use Rattle.results.specs.declared.ran.Ending.{Ending}

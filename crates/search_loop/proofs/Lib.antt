@@ -1,7 +1,6 @@
 pub mod Desking
 pub mod OpenedNode
 pub mod Hearing
-pub mod Looping
 pub mod UnopenedNode
 pub mod Sounding
 pub mod GoesOn

@@ -26,7 +26,8 @@ use Rattle.rows.specs.declared.parts.Reached.the-variants.{Live}
 use Rattle.rows.specs.Made.{of-reached}
 use Rattle.rows.specs.Row.{Fresh, Makes}
 use Rattle.results.specs.declared.ran.Record.{Record}
-use Rattle.answer_record.specs.Counts.{counted, with-answers, fits, answer-in, note-by, held-by}
+use Rattle.counters.specs.Counted.{counted}
+use Rattle.answer_record.specs.Noting.{with-answers, fits, answer-in, note-by, held-by}
 use Rattle.answer_record.specs.RowAnswer.{answer-held, held-notable}
 use Rattle.only_child.specs.declared.next.Next.the-variants.{Node as Found}
 use Rattle.only_child.specs.Became.{few-names, small-enough}

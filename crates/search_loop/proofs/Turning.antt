@@ -22,7 +22,7 @@ use Rattle.search_laws.specs.Going.{Open, resumed, left, to-come, to-come-spent
 use Rattle.search_laws.specs.ChoiceNumbers.{drop-next}
 use Rattle.rows.specs.declared.parts.Reached.{Reached}
 use Rattle.results.specs.declared.ran.Record.{Record}
-use Rattle.answer_record.specs.Counts.{counted}
+use Rattle.counters.specs.Counted.{counted}
 use Rattle.only_child.specs.declared.next.Next.{Next}
 use Rattle.only_child.specs.declared.next.Next.the-variants.{Spent, Node as Found, Due}
 use Rattle.visits.specs.declared.node.Turn.the-variants.{End}

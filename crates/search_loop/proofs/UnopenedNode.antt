@@ -16,7 +16,7 @@ use Rattle.search_laws.specs.ChoiceNumbers.{drop-next}
 use Rattle.rows.specs.declared.parts.Reached.the-variants.{Names as ManyNames, Large}
 use Rattle.rows.specs.Made.{of-reached}
 use Rattle.results.specs.declared.ran.Record.{Record}
-use Rattle.answer_record.specs.Counts.{counted}
+use Rattle.counters.specs.Counted.{counted}
 use Rattle.only_child.specs.declared.next.Next.the-variants.{Node as Found}
 use Rattle.only_child.specs.Became.{many-names, few-names, too-large}
 use Rattle.only_child.specs.Next.{dead-ends, Tells, then-live}

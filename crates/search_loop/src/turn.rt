@@ -1,13 +1,12 @@
-// One turn of the search: the next child of the deepest row is looked for, and opened. Then the loop over turns. A split that was opened stands open in
-// scratch until another one is, and its next child only advances the picks.
+// One turn of the search: the next child of the deepest row is looked for, and opened. A split that was opened stands open in scratch until another one is, and
+// its next child only advances the picks.
 ghost use mathlib.Core.Path.{_≡_};
 ghost use mathlib.Core.Bool.{cond};
 ghost use Prim.Native.Nat.{_+_};
-ghost use Rattle.search_loop.specs.Running.{Given, Running, Turned, Ends};
-use answer_record::with_nodes;
+ghost use Rattle.search_loop.specs.Running.{Given, Running, Turned};
 use children::look;
+use counters::with_nodes;
 use only_child::next::Next;
-use results::ran::Ending;
 use results::ran::Record;
 use room::layout::HEADER;
 use search::limits::Limits;
@@ -78,35 +77,5 @@ pub fn take_turn(
             ),
             shown: shown_then(looked.opens, level + 1, shown),
         },
-    }
-}
-
-// The search from its first row on, turn by turn.
-pub fn search_on(
-    arities: &[u8],
-    limits: Limits,
-    answers: &mut [u16],
-    room: &mut [u16],
-    first: Record,
-) -> Ending
-    requires { ⌜ ((to : Given) × Running (now arities) limits (now room) (now answers) 0 0 first to) ⌝ }
-    ensures { λ r. ⌜ ((to : Given) → Running (now (arities .entry)) limits (now (room .entry)) (now (answers .entry)) 0 0 first to → Ends to r (now (answers .exit))) ⌝ }
-{
-    let mut level = 0;
-    let mut counts = first;
-    let mut shown = 0;
-    loop {
-        let taken = take_turn(arities, limits, answers, room, level, counts, shown);
-        shown = taken.shown;
-        let turn = taken.turn;
-        match turn {
-            Turn::At(next, more) => {
-                level = next;
-                counts = more;
-            }
-            Turn::End(ending) => {
-                return ending;
-            }
-        }
     }
 }

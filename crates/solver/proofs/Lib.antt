@@ -1,3 +1,2 @@
-pub mod RootRun
 pub mod Rooting
 pub mod TestsPassed

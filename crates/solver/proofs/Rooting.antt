@@ -25,8 +25,9 @@ use Rattle.search_loop.specs.ChildrenPassed.{spent-stops, large-stops}
 use Rattle.results.specs.Loans.{loan, ending}
 use Rattle.results.specs.Result.{gives}
 use Rattle.search_loop.specs.Running.{given, remains, Ends}
-use Rattle.solver.specs.Start.{root-header, rooted, nothing, Asking, whole-run, Rooted}
-use Rattle.solver.proofs.RootRun.{row-fits, ends-as}
+use Rattle.root.specs.Root.{root-header, rooted, nothing, Rooted}
+use Rattle.root.proofs.RootRun.{row-fits, ends-as}
+use Rattle.solver.specs.Start.{Asking, whole-run}
 use Rattle.search_loop.proofs.Turning.{stops-here, suits-kept}
 
 module _ {unknowns : ℕ} {arities ws : List ℕ} {limits : Limits} {l : List ℕ} (A : Asking unknowns arities ws limits l) where

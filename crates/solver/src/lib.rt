@@ -4,47 +4,22 @@
 ghost use lib.ListN.{length};
 ghost use Rattle.search.specs.declared.limits.Lent.the-variants as lents;
 ghost use Rattle.results.specs.Result.{RunGives, told, told-within};
-ghost use Rattle.search_loop.specs.Running.{Given, Ends};
-ghost use Rattle.solver.specs.Start.{Asking, Bounded, Rooted, whole-run};
-
-pub mod root;
-
-use answer_record::Noted;
-use answer_record::note;
+ghost use Rattle.search_loop.specs.Running.{Ends};
+ghost use Rattle.solver.specs.Start.{Asking, Bounded, whole-run};
 use lent_words::check_question;
 use results::ran::Ending;
 use results::ran::Ran;
 use results::ran::Record;
 use room::layout::HEADER;
 use room::layout::SPARE_ROWS;
-use root::write_root;
+use root::enter_root;
+use root::row::write_root;
 use search::ends::End;
 use search::limits::Lent;
 use search::limits::Limits;
-use search_loop::turn::search_on;
 use terms::refusal::Cause;
 use terms::refusal::Checked;
 use terms::refusal::Refusal;
-
-// The root is open: its answer is noted, and the search goes on from its row.
-fn enter_root(arities: &[u8], limits: Limits, answers: &mut [u16], room: &mut [u16]) -> Ending
-    requires { ⌜ ((to : Given) × Rooted (now arities) limits (now room) (now answers) to) ⌝ }
-    ensures { λ r. ⌜ ((to : Given) → Rooted (now (arities .entry)) limits (now (room .entry)) (now (answers .entry)) to → Ends to r (now (answers .exit))) ⌝ }
-{
-    let one = Record {
-        visited: 1,
-        answers: 0,
-        words: 0,
-    };
-    let end = limits.size + HEADER;
-    match note(&room[..end], answers, one) {
-        Noted::Held(noted) => search_on(arities, limits, answers, room, noted),
-        Noted::Space => Ending {
-            end: End::Space,
-            counts: one,
-        },
-    }
-}
 
 // The run of a good question in a room that is large enough.
 fn start(

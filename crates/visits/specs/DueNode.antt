@@ -14,7 +14,8 @@ use Rattle.rows.specs.declared.parts.Reached.the-variants.{Names as ManyNames, 
 use Rattle.results.specs.declared.ran.Record.{Record}
 use Rattle.answer_record.specs.declared.Noted.{Noted}
 use Rattle.answer_record.specs.declared.Noted.the-variants.{Held, Space as NoSpace}
-use Rattle.answer_record.specs.Counts.{counted, answer-in, note-by, held-by, Notable}
+use Rattle.counters.specs.Counted.{counted}
+use Rattle.answer_record.specs.Noting.{answer-in, note-by, held-by, Notable}
 use Rattle.results.specs.declared.ran.Ending.{Ending}
 use Rattle.visits.specs.declared.node.Turn.{Turn}
 use Rattle.visits.specs.declared.node.Turn.the-variants.{At, End}

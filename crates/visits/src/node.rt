@@ -7,7 +7,7 @@ ghost use Rattle.visits.specs.DueNode.{OpenParts, most-of, back-to, due-
 use crate::number::set_number;
 use answer_record::Noted;
 use answer_record::note;
-use answer_record::with_nodes;
+use counters::with_nodes;
 use results::ran::Ending;
 use results::ran::Record;
 use room::layout::HEADER;

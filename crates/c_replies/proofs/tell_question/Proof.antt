@@ -1,4 +1,4 @@
--- `replies::tell_question`: what was read, or the refusal.
+-- `c_replies::tell_question`: what was read, or the refusal.
 use mathlib.Core.Path.{refl}
 use borrow.Author.Needs.{needs}
 use Rattle.c_replies.proofs.tell_question.Statement.{statement}
