@@ -1,4 +1,4 @@
--- What a call of C gives that lends buffers: the reply to the entry's answer, and the buffers as the entry leaves them.
+-- What a call of C gives that lends buffers to be read from or written to: the reply to the entry's answer, and the buffers as the entry leaves them.
 use Prim.Native.Nat.{ℕ}
 use mathlib.Core.Path.{_≡_, refl}
 use mathlib.Core.List.{List, [], _∷_}
@@ -9,11 +9,9 @@ use Rattle.results.specs.declared.read.Question.{Question}
 use Rattle.reader.specs.LentBuffers.{ReadGives, answer}
 use Rattle.writer.specs.Written.{held}
 use Rattle.results.specs.declared.written.Written.{Written}
-use Rattle.results.specs.Result.{RunGives, Told, result}
-use Rattle.results.specs.declared.ran.Ran.{Ran}
-use Rattle.c_replies.specs.Replies.{Replied, granted, of-question, of-written, of-ran}
+use Rattle.c_replies.specs.Replies.{Replied, granted, of-question, of-written}
 
--- ---- by what the entry reads, writes or tells; of each number, of the place and of each buffer what it is before and after
+-- ---- by what the entry reads or writes; of each number, of the place and of each buffer what it is before and after
 
 pub record ReadReplied (x : Reading Asked) (back : ℕ) (numbers numbers-after : List ℕ) (place place-after : ℕ) (arities arities-after words words-after : List ℕ) : Type 0 where
   pub reply : Replied (of-question (answer x)) back numbers numbers-after place place-after
@@ -22,10 +20,6 @@ pub record ReadReplied (x : Reading Asked) (back : ℕ) (numbers numbers-after :
 pub record WriteReplied (w : Written) (text : List ℕ) (back : ℕ) (numbers numbers-after : List ℕ) (place place-after : ℕ) (buffer buffer-after : List ℕ) : Type 0 where
   pub reply : Replied (of-written w) back numbers numbers-after place place-after
   pub holds : buffer-after ≡ held w text buffer
-
-pub record RunReplied (t : Told) (back : ℕ) (numbers numbers-after : List ℕ) (place place-after : ℕ) (answers answers-after room room-after : List ℕ) : Type 0 where
-  pub reply : Replied (of-ran (result t)) back numbers numbers-after place place-after
-  pub gives : RunGives t (result t) answers answers-after room room-after
 
 -- ---- so a call gives it that hands on the entry's answer
 
@@ -37,10 +31,6 @@ module _ {back : ℕ} {numbers numbers-after : List ℕ} {place place-after : �
   pub write-replied : {w written : Written} {text buffer buffer-after : List ℕ} → written ≡ w → buffer-after ≡ held written text buffer
       → Replied (of-written written) back numbers numbers-after place place-after → WriteReplied w text back numbers numbers-after place place-after buffer buffer-after
   write-replied e g h = record { reply = rw e at h; holds = rw e at g }
-
-  pub run-replied : {t : Told} {ran : Ran} {answers answers-after room room-after : List ℕ} → RunGives t ran answers answers-after room room-after
-      → Replied (of-ran ran) back numbers numbers-after place place-after → RunReplied t back numbers numbers-after place place-after answers answers-after room room-after
-  run-replied g h = record { reply = rw (g .told-back) at h; gives = rw (g .told-back) at g }
 
 -- ---- a granted reading tells each number in its place
 

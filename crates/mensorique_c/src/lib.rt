@@ -1,8 +1,8 @@
 // The entries as C calls them; include/mensorique.h declares them and is the caller's reference. Each takes what an entry of `mensorique` takes, with a
 // slice as a pointer and a length. A status comes back: 0, and the out numbers are written; or the refusal's number, and the place alone is written.
 //
-// Crates `c_replies` and `c_verdicts` say which status and which out numbers an answer gives, and tell them; `c_room` how many words a run's room has. In specs/,
-// `CallsFromC` says what a call gives by the entry's own definition of what was lent: the reply, and each buffer as the entry leaves it.
+// Crates `c_replies` and `c_verdicts` say which status and which out numbers an answer gives, and tell them; `c_run` has the call of a run, and `c_room` how many
+// words its room has. In specs/, `CallsFromC` says what a call gives by the entry's own definition of what was lent: the reply, and each buffer as the entry leaves it.
 ghost use mathlib.Core.Path.{_≡_};
 ghost use mathlib.Core.List.{[], _∷_};
 ghost use lib.ListN.{length as len};
@@ -17,10 +17,11 @@ ghost use Rattle.equality.specs.Answering.{equal-answer, solves-answer};
 ghost use Rattle.results.specs.Result.{told};
 ghost use Rattle.c_replies.specs.Replies.{Replied, of-equality, of-solving};
 ghost use Rattle.c_room.specs.RoomForC.{room-words};
-ghost use Rattle.mensorique_c.specs.CallsFromC.{ReadReplied, WriteReplied, RunReplied};
+ghost use Rattle.c_run.specs.RunFromC.{RunReplied};
+ghost use Rattle.mensorique_c.specs.CallsFromC.{ReadReplied, WriteReplied};
 use c_replies::tell_question;
-use c_replies::tell_ran;
 use c_replies::tell_written;
+use c_run::call_run;
 use c_verdicts::tell_equality;
 use c_verdicts::tell_solving;
 use room::layout::HEADER;
@@ -135,7 +136,7 @@ pub extern "C" fn mensorique_run(
         (now (end .entry) ∷ now (visited .entry) ∷ now (count .entry) ∷ now (used .entry) ∷ []) (now (end .exit) ∷ now (visited .exit) ∷ now (count .exit) ∷ now (used .exit) ∷ [])
         (now (place .entry)) (now (place .exit)) (now (answers .entry)) (now (answers .exit)) (now (room .entry)) (now (room .exit)) ⌝ }
 {
-    let ran = mensorique::run(
+    call_run(
         unknowns,
         arities,
         equations,
@@ -145,8 +146,12 @@ pub extern "C" fn mensorique_run(
         size,
         answers,
         room,
-    );
-    tell_ran(ran, end, visited, count, used, place)
+        end,
+        visited,
+        count,
+        used,
+        place,
+    )
 }
 
 // (depth + 8) * (size + 8), or 0 where a limit is exceeded.

@@ -1,8 +1,8 @@
--- `mensorique_c::mensorique_run`: the question is run, and the answer told.
+-- `c_run::call_run`: the question is run, and the answer told.
 use borrow.Author.Needs.{needs}
-use Rattle.mensorique_c.specs.CallsFromC.{run-replied}
-use Rattle.mensorique_c.proofs.mensorique_run.Statement.{statement}
-use Rattle.mensorique_c.proofs.mensorique_run.Tie as tie
+use Rattle.c_run.specs.RunFromC.{run-replied}
+use Rattle.c_run.proofs.call_run.Statement.{statement}
+use Rattle.c_run.proofs.call_run.Tie as tie
 
 run-requires : tie.Need-run-requires
 run-requires c κs = search needs
@@ -19,6 +19,6 @@ same-length-2 c = search needs
 returns : tie.Need-returns
 returns c = run-replied (c .before .before .before .before .before .before .before .before .before .before .run .ensures) (c .tell-ran .ensures)
 
-pub mensorique-run-spec : {M : Type 1} → statement M
-mensorique-run-spec =
+pub call-run-spec : {M : Type 1} → statement M
+call-run-spec =
     tie.close (tie.spec run-requires tell-ran-requires same-length same-length-2 returns)
