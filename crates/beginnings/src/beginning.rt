@@ -17,6 +17,8 @@ use numerals::bytes::wide;
 use numerals::number::Numeral;
 use numerals::number::read_number;
 use terms::bounds;
+use terms::kind::functor_word;
+use terms::kind::unknown_word;
 use terms::refusal::Cause;
 use terms::refusal::Refusal;
 
@@ -53,7 +55,7 @@ fn read_unknown(text: &[u8], at: usize, unknowns: usize, words: &mut [u16], n: u
 {
     match read_name(text, at, unknowns, n) {
         Numeral::Value(i, p) => {
-            words[n] = bounds::FIRST_UNKNOWN + i as u16;
+            words[n] = unknown_word(i);
             Next::Done(p, n + 1)
         }
         Numeral::Unfit(r) => Next::Refused(r),
@@ -104,7 +106,7 @@ fn read_functor(
 {
     match read_name(text, at, arities.len(), n) {
         Numeral::Value(k, p) => {
-            words[n] = bounds::FIRST_FUNCTOR + k as u16;
+            words[n] = functor_word(k);
             open_arguments(text, p, wide(arities[k]), depth, n + 1)
         }
         Numeral::Unfit(r) => Next::Refused(r),

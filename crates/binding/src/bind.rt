@@ -16,7 +16,7 @@ use rows::header::Header;
 use rows::header::seal;
 use rows::parts::Rest;
 use rows::parts::Sized;
-use terms::bounds::FIRST_UNKNOWN;
+use terms::kind::unknown_number;
 
 // The pending equations, then the released entries, which are those of x.
 fn bind_pending(
@@ -74,7 +74,7 @@ fn bind_last(
         return Copied::Full;
     }
     room::copy(room, at, n, to);
-    room[to + n] = x - FIRST_UNKNOWN;
+    room[to + n] = unknown_number(x);
     room::copy(room, by, m, to + n + 1);
     Copied::Done(n + 1 + m)
 }

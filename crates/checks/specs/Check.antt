@@ -6,8 +6,10 @@ use mathlib.Core.Bool.{Bool, true, false, cond, _||_}
 use lib.Dec.{eqb, ltb}
 use lib.ListN.{length, getD}
 use Rattle.terms.specs.Bounds.{Bounds}
-use Rattle.terms.specs.Kind.{Kind, of-empty, of-member, of-unknown, of-functor, of-nothing, kind}
+use Rattle.terms.specs.Kind.{kind}
 use Rattle.terms.specs.Lists.{any}
+use Rattle.terms.specs.declared.kind.Kind.{Kind}
+use Rattle.terms.specs.declared.kind.Kind.the-variants.{Empty, Member, Unknown, Functor, Nothing}
 use Rattle.terms.specs.declared.refusal.Cause.{Cause}
 use Rattle.terms.specs.declared.refusal.Cause.the-variants.{Limit, WordsStop, WordsMeaningless, WordsUndeclared, WordsLeft}
 use Rattle.terms.specs.declared.refusal.Refusal.{Refusal}
@@ -21,11 +23,11 @@ refused cause place = Refused (record { cause = cause; place = place })
 
 -- what follows a word of a kind, with n unknowns allowed
 unfoldable pub follows : List ℕ → ℕ → Kind → Follow
-follows arities n of-empty = Terms 0
-follows arities n of-member = Terms 2
-follows arities n (of-unknown i) = cond (ltb i n) (Terms 0) (Cannot WordsUndeclared)
-follows arities n (of-functor k) = cond (ltb k (length arities)) (Terms (getD arities k 0)) (Cannot WordsUndeclared)
-follows arities n of-nothing = Cannot WordsMeaningless
+follows arities n Empty = Terms 0
+follows arities n Member = Terms 2
+follows arities n (Unknown i) = cond (ltb i n) (Terms 0) (Cannot WordsUndeclared)
+follows arities n (Functor k) = cond (ltb k (length arities)) (Terms (getD arities k 0)) (Cannot WordsUndeclared)
+follows arities n Nothing = Cannot WordsMeaningless
 
 unfoldable pub follow : Bounds → List ℕ → ℕ → ℕ → Follow
 follow b arities n w = follows arities n (kind b w)

@@ -8,12 +8,14 @@ use lib.Dec.{ltb}
 use lib.ListN.{length, getD, drop, length-drop}
 use borrow.Author.Tests.{ltb-true}
 use Rattle.terms.specs.Bounds.{Bounds, Proper, MEMBER}
-use Rattle.terms.specs.Kind.{Kind, of-empty, of-member, of-unknown, of-functor, of-nothing, kind, Means, means, means-empty, means-member, means-unknown, means-functor, means-nothing, takes, takes-empty, takes-member, takes-unknown, takes-functor}
+use Rattle.terms.specs.Kind.{kind, Means, means, means-empty, means-member, means-unknown, means-functor, means-nothing, takes, takes-empty, takes-member, takes-unknown, takes-functor}
 use Rattle.terms.specs.Lists.{All, none, both}
 use Rattle.terms.specs.Term.{Term, Terms, words, words*, count}
 use Rattle.terms.specs.Formed.{Formed, Formed*, formed-unknown, formed-empty, formed-with, formed-functor, formed-none, formed-more, row}
 use Rattle.terms.specs.Reading.{top, taken, push}
 use Rattle.checks.specs.Check.{follow, follows}
+use Rattle.terms.specs.declared.kind.Kind.{Kind}
+use Rattle.terms.specs.declared.kind.Kind.the-variants.{Empty, Member, Unknown, Functor, Nothing}
 use Rattle.terms.specs.declared.refusal.Cause.{Cause}
 use Rattle.terms.specs.declared.refusal.Cause.the-variants.{WordsUndeclared}
 use Rattle.checks.specs.declared.check.Follow.{Follow}
@@ -70,10 +72,10 @@ stands-if false f cause e = let z : _≡_ {A = ℕ} 0 1 = cc in absurd (omega ar
 module _ {b : Bounds} (proper : Proper b) (arities : List ℕ) (n w m : ℕ) (ts : List Term) (fs : All (Formed arities n) ts) (h : m ≤ length ts) where
   by-kind : (k : Kind) → Means b w k → follows arities n k ≡ follow.Terms m → Pushed b arities n w m ts (push arities k ts)
   unfolding follows push row words
-  by-kind of-empty (means-empty e) f =
+  by-kind Empty (means-empty e) f =
       let z : 0 ≡ m = cc in
       record { follows = rw e (takes-empty proper arities ∙ z); one-more = omega arith; formed = both formed-empty fs; worded = rw e }
-  by-kind of-member (means-member e) f =
+  by-kind Member (means-member e) f =
       let z : 2 ≡ m = cc in
       record {
         follows = rw e (takes-member proper arities ∙ z);
@@ -81,7 +83,7 @@ module _ {b : Bounds} (proper : Proper b) (arities : List ℕ) (n w m : ℕ) (ts
         formed = both (formed-with (formed-top fs) (formed-top (formed-drop 1 fs))) (formed-drop 2 fs);
         worded = rw e (ap (λ ws. MEMBER ∷ ws) (words-two b ts (omega arith)));
       }
-  by-kind (of-unknown i) (means-unknown e j) f =
+  by-kind (Unknown i) (means-unknown e j) f =
       let s = stands-if (ltb i n) (follow.Terms 0) WordsUndeclared f in
       let z : 0 ≡ m = cc in
       record {
@@ -90,7 +92,7 @@ module _ {b : Bounds} (proper : Proper b) (arities : List ℕ) (n w m : ℕ) (ts
         formed = both (formed-unknown (ltb-true i n (s .0))) fs;
         worded = rw e;
       }
-  by-kind (of-functor k) (means-functor e j) f =
+  by-kind (Functor k) (means-functor e j) f =
       let s = stands-if (ltb k (length arities)) (follow.Terms (getD arities k 0)) WordsUndeclared f in
       let z : getD arities k 0 ≡ m = cc in
       record {
@@ -99,7 +101,7 @@ module _ {b : Bounds} (proper : Proper b) (arities : List ℕ) (n w m : ℕ) (ts
         formed = both (formed-functor (ltb-true k (length arities) (s .0)) (count-taken (getD arities k 0) ts) (formed-taken (getD arities k 0) fs)) (formed-drop (getD arities k 0) fs);
         worded = rw (e, z) (ap (λ ws. (b .first-functor + k) ∷ ws) (words-taken b m ts h));
       }
-  by-kind of-nothing means-nothing f = let z : _≡_ {A = ℕ} 0 1 = cc in absurd (omega arith)
+  by-kind Nothing means-nothing f = let z : _≡_ {A = ℕ} 0 1 = cc in absurd (omega arith)
 
   pub pushed : follow b arities n w ≡ follow.Terms m → Pushed b arities n w m ts (push arities (kind b w) ts)
   unfolding follow

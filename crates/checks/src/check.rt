@@ -5,11 +5,8 @@ ghost use lib.ListN.{length, drop};
 ghost use Rattle.terms.specs.Bounds.{edition-one};
 ghost use Rattle.checks.specs.Check.{follow, checked};
 ghost use Rattle.checks.specs.Short.{stopped};
-use terms::bounds::AFTER_FUNCTORS;
-use terms::bounds::EMPTY;
-use terms::bounds::FIRST_FUNCTOR;
-use terms::bounds::FIRST_UNKNOWN;
-use terms::bounds::MEMBER;
+use terms::kind::Kind;
+use terms::kind::kind_of;
 use terms::refusal::Cause;
 use terms::refusal::Checked;
 use terms::refusal::Refusal;
@@ -24,30 +21,24 @@ pub enum Follow {
 fn what_follows(arities: &[u8], unknowns: usize, word: u16) -> Follow
     ensures { λ r. ⌜ r ≡ follow edition-one (now (arities .entry)) unknowns word ⌝ }
 {
-    if word == EMPTY {
-        return Follow::Terms(0);
-    }
-    if word == MEMBER {
-        return Follow::Terms(2);
-    }
-    if word < FIRST_UNKNOWN {
-        return Follow::Cannot(Cause::WordsMeaningless);
-    }
-    if word < FIRST_FUNCTOR {
-        let i = (word - FIRST_UNKNOWN) as usize;
-        if i < unknowns {
-            return Follow::Terms(0);
+    match kind_of(word) {
+        Kind::Empty => Follow::Terms(0),
+        Kind::Member => Follow::Terms(2),
+        Kind::Unknown(i) => {
+            if (i as usize) < unknowns {
+                return Follow::Terms(0);
+            }
+            Follow::Cannot(Cause::WordsUndeclared)
         }
-        return Follow::Cannot(Cause::WordsUndeclared);
-    }
-    if word < AFTER_FUNCTORS {
-        let k = (word - FIRST_FUNCTOR) as usize;
-        if k < arities.len() {
-            return Follow::Terms(arities[k]);
+        Kind::Functor(k) => {
+            let k = k as usize;
+            if k < arities.len() {
+                return Follow::Terms(arities[k]);
+            }
+            Follow::Cannot(Cause::WordsUndeclared)
         }
-        return Follow::Cannot(Cause::WordsUndeclared);
+        Kind::Nothing => Follow::Cannot(Cause::WordsMeaningless),
     }
-    Follow::Cannot(Cause::WordsMeaningless)
 }
 
 // More terms are due than words are left from this place on: the first word that can't stand, or the words stop. No counter can overflow.

@@ -20,6 +20,7 @@ use room::layout::HEADER;
 use rows::first::first_of;
 use rows::first::read_header;
 use rows::first::rest_of;
+use terms::bounds::MEMBER;
 
 // The same, by the kind of the row: nothing is pending, or its first equation is a split, or it leaves no choice.
 fn find_child(
@@ -101,7 +102,7 @@ pub fn next_child(
     ensures { λ r. ⌜ ((st : State) → Ready (now (arities .entry)) (now (room .entry)) at number size scratch most st → Looks (now (room .entry)) at number size scratch most st r (now (room .exit))) ⌝ }
 {
     if 0 < number {
-        if room[at + HEADER] != 1 {
+        if room[at + HEADER] != MEMBER {
             return Looked {
                 next: Next::Spent(0),
                 opens: false,

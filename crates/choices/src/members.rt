@@ -6,6 +6,7 @@ ghost use Rattle.room.specs.Room.{seg, put};
 ghost use Rattle.terms.specs.Bounds.{edition-one};
 ghost use Rattle.choices.specs.MemberPlaces.{noted, NoteParts};
 use rows::walk::terms_after;
+use terms::bounds::MEMBER;
 
 // Notes the places of a set's member marks, and then of its kernel; answers how many members there are. The set begins at the place `first` of the
 // words at `body`, of which `end` are read; places are counted from there.
@@ -31,7 +32,7 @@ pub fn note_members(
             place += 1;
         } else {
             room[to + n] = place as u16;
-            if word != 1 {
+            if word != MEMBER {
                 return n;
             }
             n += 1;

@@ -11,7 +11,7 @@ use term_places::places::rest;
 use term_places::places::term_end;
 use term_places::scan::covers;
 use terms::bounds::MEMBER;
-use walks::walk::terms_after;
+use terms::kind::terms_after;
 
 // Are the terms at p and q equal?
 pub fn same(

@@ -2,8 +2,8 @@
 // settled first.
 ghost use Prim.Native.Nat.{_≤_};
 use term_places::places::wide;
-use terms::bounds::FIRST_FUNCTOR;
-use terms::bounds::FIRST_UNKNOWN;
+use terms::kind::Kind;
+use terms::kind::kind_of;
 
 // So few that the comparison, which goes one level deeper for each bracket, stays within 1 MiB of stack.
 const FEW: usize = 6144;
@@ -41,13 +41,10 @@ fn words_of_value(starts: &[u16], i: usize, end: usize) -> usize
 fn words_for(word: u16, starts: &[u16], end: usize) -> usize
     ensures { λ r. ⌜ r ≤ 6145 ⌝ }
 {
-    if word < FIRST_UNKNOWN {
-        return 1;
+    match kind_of(word) {
+        Kind::Unknown(i) => words_of_value(starts, wide(i), end),
+        Kind::Empty | Kind::Member | Kind::Functor(_) | Kind::Nothing => 1,
     }
-    if FIRST_FUNCTOR <= word {
-        return 1;
-    }
-    words_of_value(starts, wide(word - FIRST_UNKNOWN), end)
 }
 
 // Has a question, with the values that start at `starts` and end at `end` put in, few words?

@@ -14,8 +14,8 @@ use rows::parts::of_sized;
 use rows::walk::end_of_term;
 use rows::walk::is_in;
 use rows::walk::place_of_kernel;
-use terms::bounds::FIRST_UNKNOWN;
 use terms::bounds::PATH_UNKNOWNS;
+use terms::kind::unknown_word;
 
 // Writes the members, each with its mark, of all entries of x in the n words at `from`, and answers how many words they are.
 fn gather(arities: &[u8], room: &mut [u16], from: usize, n: usize, x: u16, to: usize) -> usize
@@ -65,6 +65,6 @@ pub fn join(
     if PATH_UNKNOWNS <= next {
         return Made::Names;
     }
-    room[last] = FIRST_UNKNOWN + next as u16;
+    room[last] = unknown_word(next);
     of_sized(finish_pile(arities, room, rest, x, value, m + 1, to, 0, size, next + 1))
 }

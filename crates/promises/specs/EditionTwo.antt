@@ -13,13 +13,14 @@ use Rattle.terms.specs.Lists.{All, Any}
 use Rattle.terms.specs.Term.{Term, words, size, subst, with}
 use Rattle.terms.specs.Formed.{Formed, row, Question, Good}
 use Rattle.terms.specs.Answers.{listed}
-use Rattle.terms.specs.Kind.{of-unknown, of-functor, kind, takes, Worded}
+use Rattle.terms.specs.Kind.{kind, takes, Worded}
 use Rattle.terms.specs.Kind as kinds
 use Rattle.terms.specs.Flat as flat
 use Rattle.terms.specs.Reading.{read}
 use Rattle.terms.specs.Reading as reading
 use Rattle.terms.specs.Walk.{span}
 use Rattle.terms.specs.Walk as walk
+use Rattle.terms.specs.declared.kind.Kind.the-variants.{Unknown, Functor}
 use Rattle.laws.specs.Values.{Values, GroundValues, Solves}
 use Rattle.search.specs.declared.ends.End.the-variants.{Done, Names}
 use Rattle.search.specs.State.{State, state-size}
@@ -64,11 +65,11 @@ one-answer = refl
 
 -- ---- terms
 
-unknown-kind : (i : ℕ) → i < edition-two .unknown-words → kind edition-two (edition-two .first-unknown + i) ≡ of-unknown i
+unknown-kind : (i : ℕ) → i < edition-two .unknown-words → kind edition-two (edition-two .first-unknown + i) ≡ Unknown i
 unfolding edition-two
 unknown-kind = kinds.kind-unknown edition-two-proper
 
-functor-kind : (k : ℕ) → k < FUNCTOR-WORDS → kind edition-two (FIRST-FUNCTOR + k) ≡ of-functor k
+functor-kind : (k : ℕ) → k < FUNCTOR-WORDS → kind edition-two (FIRST-FUNCTOR + k) ≡ Functor k
 unfolding edition-two
 functor-kind = kinds.kind-functor edition-two-proper
 

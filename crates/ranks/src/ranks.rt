@@ -6,10 +6,10 @@ ghost use Rattle.ranks.specs.Ranks.{Ranked, RankTold, Above, OfPlace, Of
 use term_places::classes::NONE;
 use term_places::places::resolve;
 use term_places::places::term_end;
-use terms::bounds::EMPTY;
-use terms::bounds::FIRST_FUNCTOR;
 use terms::bounds::MEMBER;
-use walks::walk::terms_after;
+use terms::kind::Kind;
+use terms::kind::kind_of;
+use terms::kind::terms_after;
 
 fn larger(a: u16, b: u16) -> u16
     ensures { λ r. ⌜ r ≡ max a b ⌝ }
@@ -62,17 +62,12 @@ fn rank_of(arities: &[u8], words: &[u16], starts: &[u16], ranks: &[u16], p: usiz
     requires { ⌜ OfPlace (held (now arities) (now words) (now starts)) (now ranks) p ⌝ }
     ensures { λ r. ⌜ RankTold (held (now (arities .entry)) (now (words .entry)) (now (starts .entry))) p r ⌝ }
 {
-    let word = words[p];
-    if word == MEMBER {
-        return rank_of_set(arities, words, starts, ranks, p);
+    match kind_of(words[p]) {
+        Kind::Empty => 0,
+        Kind::Member => rank_of_set(arities, words, starts, ranks, p),
+        Kind::Functor(_) => rank_of_functor(arities, words, starts, ranks, p),
+        Kind::Unknown(_) | Kind::Nothing => NONE,
     }
-    if word == EMPTY {
-        return 0;
-    }
-    if word < FIRST_FUNCTOR {
-        return NONE;
-    }
-    rank_of_functor(arities, words, starts, ranks, p)
 }
 
 // Ranks for all places but rests, which are compared only with their sets.

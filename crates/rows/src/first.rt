@@ -9,10 +9,10 @@ use crate::parts::Rest;
 use crate::step::step_for;
 use crate::step::word_at;
 use crate::walk::end_of_term;
-use crate::walk::is_unknown;
 use crate::walk::wide;
 use room::layout::HEADER;
 use search::steps::Step;
+use terms::kind::is_unknown;
 
 // The step, the place of the right side, and the place after it.
 pub struct First {

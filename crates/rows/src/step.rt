@@ -5,10 +5,12 @@ ghost use lib.ListN.{length, getD};
 ghost use Rattle.terms.specs.Bounds.{edition-one};
 ghost use Rattle.rows.specs.Stepping.{tails-of, kernel-word, meet-words, compare-words, step-of};
 use crate::walk::is_in;
-use crate::walk::is_unknown;
 use crate::walk::place_of_kernel;
 use search::steps::Step;
 use search::steps::Tails;
+use terms::bounds::EMPTY;
+use terms::bounds::MEMBER;
+use terms::kind::is_unknown;
 use walks::occurrence::Occurrence;
 use walks::occurrence::find_unknown;
 
@@ -73,10 +75,10 @@ fn compare(arities: &[u8], left: &[u16], right: &[u16]) -> Step
     if first != word_at(right, 0) {
         return Step::Dead;
     }
-    if first == 0 {
+    if first == EMPTY {
         return Step::Drop;
     }
-    if first == 1 {
+    if first == MEMBER {
         return Step::Split(tails_by_words(
             word_of_kernel(arities, left),
             word_of_kernel(arities, right),

@@ -2,14 +2,12 @@
 ghost use mathlib.Core.Path.{_≡_};
 ghost use Prim.Native.Nat.{_<_, _^_};
 ghost use lib.ListN.{length};
-ghost use mathlib.Core.Bool.{_&&_};
-ghost use Rattle.terms.specs.Bounds.{edition-one, FIRST-UNKNOWN, UNKNOWN-WORDS};
-ghost use Rattle.terms.specs.Kind.{takes, within};
+ghost use Rattle.terms.specs.Bounds.{edition-one};
+ghost use Rattle.terms.specs.Kind.{takes};
 ghost use Rattle.rows.specs.Ended.{term-end};
 ghost use Rattle.rows.specs.Stripped.{kernel-at};
 ghost use Rattle.rows.specs.HeldWords.{holds};
-use terms::bounds::FIRST_FUNCTOR;
-use terms::bounds::FIRST_UNKNOWN;
+use terms::bounds::MEMBER;
 
 pub fn wide(word: u16) -> usize
     ensures { λ r. ⌜ r ≡ word ⌝ }
@@ -17,18 +15,11 @@ pub fn wide(word: u16) -> usize
     word as usize
 }
 
-// Whether a word is an unknown's.
-pub fn is_unknown(word: u16) -> bool
-    ensures { λ r. ⌜ r ≡ within FIRST-UNKNOWN UNKNOWN-WORDS word ⌝ }
-{
-    FIRST_UNKNOWN <= word && word < FIRST_FUNCTOR
-}
-
 // How many terms follow a word.
 pub fn terms_after(arities: &[u8], word: u16) -> usize
     ensures { λ r. ⌜ (r ≡ takes edition-one (now (arities .entry)) word) × (r < 256) ⌝ }
 {
-    walks::walk::terms_after(arities, word) as usize
+    terms::kind::terms_after(arities, word) as usize
 }
 
 // `end_of_term`, word by word: so many terms are due.
@@ -73,7 +64,7 @@ pub fn place_of_kernel(arities: &[u8], words: &[u16]) -> usize
             due = due - 1 + terms_after(arities, words[place]);
             place += 1;
         } else {
-            if words[place] != 1 {
+            if words[place] != MEMBER {
                 return place;
             }
             due = 1;

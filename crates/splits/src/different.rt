@@ -20,8 +20,8 @@ use rows::parts::of_sized;
 use rows::walk::is_in;
 use tails::bound_tail::bound;
 use tails::joined_members::tail_members;
-use terms::bounds::FIRST_UNKNOWN;
 use terms::bounds::PATH_UNKNOWNS;
+use terms::kind::unknown_word;
 
 // The numbers of words of U and of T, each member with its mark.
 pub struct Joined {
@@ -100,7 +100,7 @@ fn share(
     let first = scratch + stride + stride + stride;
     let second = first + stride;
     let value = second + stride;
-    let word = FIRST_UNKNOWN + next as u16;
+    let word = unknown_word(next);
     room[first + joined.u] = word;
     room[second + joined.t] = word;
     replace::replace(

@@ -1,3 +1,3 @@
 pub mod LabelsWritten
-pub mod Words
+pub mod Staying
 pub mod Scanning

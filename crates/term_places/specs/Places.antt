@@ -5,11 +5,13 @@ use mathlib.Core.Path.{_≡_}
 use mathlib.Core.List.{List}
 use lib.ListN.{length, getD, drop}
 use Rattle.terms.specs.Bounds.{Bounds, edition-one, SYMBOLS, MEMBER}
-use Rattle.terms.specs.Kind.{Kind, of-empty, of-member, of-unknown, of-functor, of-nothing, kind, Worded}
+use Rattle.terms.specs.Kind.{kind, Worded}
 use Rattle.terms.specs.Lists.{All}
 use Rattle.terms.specs.Term.{Term, size, kernel}
 use Rattle.terms.specs.Formed.{Formed, row}
 use Rattle.terms.specs.Reading.{read, top}
+use Rattle.terms.specs.declared.kind.Kind.{Kind}
+use Rattle.terms.specs.declared.kind.Kind.the-variants.{Empty, Member, Unknown, Functor, Nothing}
 use Rattle.laws.specs.Values.{Values, value}
 
 -- ---- words that hold terms
@@ -67,11 +69,11 @@ pub record Known (h : Held) (p : ℕ) : Type 0 where
 
 -- where an unknown stands, on to its value
 unfoldable pub on-to : List ℕ → ℕ → Kind → ℕ
-on-to starts p of-empty = p
-on-to starts p of-member = p
-on-to starts p (of-unknown i) = getD starts i 0
-on-to starts p (of-functor k) = p
-on-to starts p of-nothing = p
+on-to starts p Empty = p
+on-to starts p Member = p
+on-to starts p (Unknown i) = getD starts i 0
+on-to starts p (Functor k) = p
+on-to starts p Nothing = p
 
 unfoldable pub resolved : Bounds → List ℕ → List ℕ → ℕ → ℕ
 resolved b ws starts p = on-to starts p (kind b (getD ws p 0))

@@ -10,7 +10,8 @@ use lib.Seq.{drop-cons, drop-drop, drop-at}
 use Rattle.terms.specs.Bounds.{Bounds, MEMBER}
 use Rattle.terms.specs.Flat.{length-words, size-positive}
 use Rattle.terms.specs.Formed.{Formed, Formed*, formed-unknown, formed-empty, formed-with, formed-functor, formed-none, formed-more, row}
-use Rattle.terms.specs.Kind.{Kind, kind, kind-unknown, kind-functor}
+use Rattle.terms.specs.Kind.{kind, kind-unknown, kind-functor}
+use Rattle.terms.specs.declared.kind.Kind.{Kind}
 use Rattle.terms.specs.Lists.{All, none, both, All-append}
 use Rattle.terms.specs.Reading.{read, top, taken, push, row-read}
 use Rattle.terms.specs.Term.{Term, unknown, empty, with, functor, more, words, words*, size, list}

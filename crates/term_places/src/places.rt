@@ -3,9 +3,9 @@ ghost use mathlib.Core.Path.{_≡_};
 ghost use Rattle.terms.specs.Bounds.{edition-one};
 ghost use Rattle.term_places.specs.Standing.{Within};
 ghost use Rattle.term_places.specs.Places.{held, end, resolved, rest-of, Resolvable, AtPlace, AtMember, KernelOf};
-use terms::bounds::FIRST_FUNCTOR;
-use terms::bounds::FIRST_UNKNOWN;
 use terms::bounds::MEMBER;
+use terms::kind::is_unknown;
+use terms::kind::unknown_number;
 use walks::walk::terms_end;
 
 pub fn wide(x: u16) -> usize
@@ -27,14 +27,11 @@ pub fn resolve(words: &[u16], starts: &[u16], p: usize) -> usize
     requires { ⌜ Resolvable edition-one (now words) (now starts) p ⌝ }
     ensures { λ r. ⌜ r ≡ resolved edition-one (now (words .entry)) (now (starts .entry)) p ⌝ }
 {
-    let w = words[p];
-    if w < FIRST_UNKNOWN {
-        return p;
+    let word = words[p];
+    if is_unknown(word) {
+        return wide(starts[wide(unknown_number(word))]);
     }
-    if FIRST_FUNCTOR <= w {
-        return p;
-    }
-    wide(starts[wide(w - FIRST_UNKNOWN)])
+    p
 }
 
 // The place of the rest where a member adding stands.

@@ -11,13 +11,8 @@ use borrow.Author.Tests.{ne-eqb, lt-ltb, le-ltb, le-leb, lt-leb, eqb-true, leb-t
 use Rattle.room.specs.Parts.{Apart, earlier, later}
 use Rattle.terms.specs.Bounds.{Bounds, Proper, EMPTY, MEMBER}
 use Rattle.terms.specs.Lists.{cases, and-left, and-right, and-both}
-
-pub data Kind : Type 0 where
-  of-empty : Kind
-  of-member : Kind
-  of-unknown : ℕ → Kind
-  of-functor : ℕ → Kind
-  of-nothing : Kind
+use Rattle.terms.specs.declared.kind.Kind.{Kind}
+use Rattle.terms.specs.declared.kind.Kind.the-variants.{Empty, Member, Unknown, Functor, Nothing}
 
 -- is w one of the words from a first one on, so many?
 unfoldable pub within : ℕ → ℕ → ℕ → Bool
@@ -25,11 +20,11 @@ within first many w = leb first w && ltb w (first + many)
 
 unfoldable pub kind : Bounds → ℕ → Kind
 kind b w =
-    cond (eqb w EMPTY) of-empty
-    (cond (eqb w MEMBER) of-member
-    (cond (within (b .first-unknown) (b .unknown-words) w) (of-unknown (w - b .first-unknown))
-    (cond (within (b .first-functor) (b .functor-words) w) (of-functor (w - b .first-functor))
-    of-nothing)))
+    cond (eqb w EMPTY) Empty
+    (cond (eqb w MEMBER) Member
+    (cond (within (b .first-unknown) (b .unknown-words) w) (Unknown (w - b .first-unknown))
+    (cond (within (b .first-functor) (b .functor-words) w) (Functor (w - b .first-functor))
+    Nothing)))
 
 -- how many terms follow a word: the member and the rest, or the arguments
 unfoldable pub takes : Bounds → List ℕ → ℕ → ℕ
@@ -41,11 +36,11 @@ takes b arities w =
 -- ---- a kind tells its word
 
 pub data Means (b : Bounds) (w : ℕ) : Kind → Type 0 where
-  means-empty : w ≡ EMPTY → Means b w of-empty
-  means-member : w ≡ MEMBER → Means b w of-member
-  means-unknown : {i : ℕ} → w ≡ b .first-unknown + i → i < b .unknown-words → Means b w (of-unknown i)
-  means-functor : {k : ℕ} → w ≡ b .first-functor + k → k < b .functor-words → Means b w (of-functor k)
-  means-nothing : Means b w of-nothing
+  means-empty : w ≡ EMPTY → Means b w Empty
+  means-member : w ≡ MEMBER → Means b w Member
+  means-unknown : {i : ℕ} → w ≡ b .first-unknown + i → i < b .unknown-words → Means b w (Unknown i)
+  means-functor : {k : ℕ} → w ≡ b .first-functor + k → k < b .functor-words → Means b w (Functor k)
+  means-nothing : Means b w Nothing
 
 within-from : (first many w : ℕ) → within first many w ≡ true → first ≤ w
 unfolding within
@@ -68,6 +63,34 @@ means b w =
     (λ q. cases (within (b .first-functor) (b .functor-words) w)
     (λ t. rw (s, r, q, t) (means-functor {k = w - b .first-functor} (let lo = within-from (b .first-functor) (b .functor-words) w t in omega arith) (within-many _ _ w t)))
     (λ t. rw (s, r, q, t) means-nothing))))
+
+module _ (b : Bounds) {w : ℕ} where
+  told : {k : Kind} → k ≡ kind b w → Means b w k
+  told e = rw e (means b w)
+
+  pub empty-told : Empty ≡ kind b w → w ≡ 0
+  empty-told e = go (told e)
+    where
+      go : Means b w Empty → w ≡ 0
+      go (means-empty e) = e
+
+  pub member-told : Member ≡ kind b w → w ≡ 1
+  member-told e = go (told e)
+    where
+      go : Means b w Member → w ≡ 1
+      go (means-member e) = e
+
+  pub unknown-told : {i : ℕ} → Unknown i ≡ kind b w → (w ≡ b .first-unknown + i) × (i < b .unknown-words)
+  unknown-told {i} e = go (told e)
+    where
+      go : Means b w (Unknown i) → (w ≡ b .first-unknown + i) × (i < b .unknown-words)
+      go (means-unknown e h) = (e, h)
+
+  pub functor-told : {k : ℕ} → Functor k ≡ kind b w → (w ≡ b .first-functor + k) × (k < b .functor-words)
+  functor-told {k} e = go (told e)
+    where
+      go : Means b w (Functor k) → (w ≡ b .first-functor + k) × (k < b .functor-words)
+      go (means-functor e h) = (e, h)
 
 -- ---- the words of symbols
 
@@ -102,7 +125,7 @@ apart-words (earlier a) h l e = omega arith
 apart-words (later a) h l e = omega arith
 
 pub kind-nothing : (b : Bounds) (w : ℕ) → 2 ≤ w → within (b .first-unknown) (b .unknown-words) w ≡ false → within (b .first-functor) (b .functor-words) w ≡ false
-    → kind b w ≡ of-nothing
+    → kind b w ≡ Nothing
 unfolding kind
 kind-nothing b w h u f = rw (ne-eqb w EMPTY (λ e. omega arith), ne-eqb w MEMBER (λ e. omega arith), u, f)
 
@@ -117,13 +140,13 @@ module _ (b : Bounds) (arities : List ℕ) {w : ℕ} (n : w ≡ MEMBER → ⊥) 
   takes-table u l = rw (ne-eqb w MEMBER n, u, le-ltb w (b .first-functor) l)
 
 module _ {b : Bounds} (proper : Proper b) where
-  pub kind-unknown : (i : ℕ) → i < b .unknown-words → kind b (b .first-unknown + i) ≡ of-unknown i
+  pub kind-unknown : (i : ℕ) → i < b .unknown-words → kind b (b .first-unknown + i) ≡ Unknown i
   unfolding kind
   kind-unknown i h =
       let e : b .first-unknown + i - b .first-unknown ≡ i = omega arith in
       rw (ne-eqb (b .first-unknown + i) EMPTY (λ e. omega arith), ne-eqb (b .first-unknown + i) MEMBER (λ e. omega arith), within-first (b .first-unknown) (b .unknown-words) i h, e)
 
-  pub kind-functor : (k : ℕ) → k < b .functor-words → kind b (b .first-functor + k) ≡ of-functor k
+  pub kind-functor : (k : ℕ) → k < b .functor-words → kind b (b .first-functor + k) ≡ Functor k
   unfolding kind
   kind-functor k h =
       let e : b .first-functor + k - b .first-functor ≡ k = omega arith in
@@ -135,12 +158,12 @@ module _ {b : Bounds} (proper : Proper b) where
         e,
       )
 
-  pub kind-of-unknown : (w : ℕ) → b .first-unknown ≤ w → w < b .first-unknown + b .unknown-words → kind b w ≡ of-unknown (w - b .first-unknown)
+  pub kind-of-unknown : (w : ℕ) → b .first-unknown ≤ w → w < b .first-unknown + b .unknown-words → kind b w ≡ Unknown (w - b .first-unknown)
   kind-of-unknown w l m =
       let e : b .first-unknown + (w - b .first-unknown) ≡ w = omega arith in
       rw e at (kind-unknown (w - b .first-unknown) (omega arith))
 
-  pub kind-of-functor : (w : ℕ) → b .first-functor ≤ w → w < b .first-functor + b .functor-words → kind b w ≡ of-functor (w - b .first-functor)
+  pub kind-of-functor : (w : ℕ) → b .first-functor ≤ w → w < b .first-functor + b .functor-words → kind b w ≡ Functor (w - b .first-functor)
   kind-of-functor w l m =
       let e : b .first-functor + (w - b .first-functor) ≡ w = omega arith in
       rw e at (kind-functor (w - b .first-functor) (omega arith))

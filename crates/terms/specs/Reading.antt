@@ -6,7 +6,9 @@ use mathlib.Core.List.{List, [], _∷_, _++_, append-assoc, append-nil, append-c
 use native.Mathlib.Omega.{arith}
 use lib.ListN.{getD, drop}
 use Rattle.terms.specs.Bounds.{Bounds, EMPTY, MEMBER}
-use Rattle.terms.specs.Kind.{Kind, of-empty, of-member, of-unknown, of-functor, of-nothing, kind, kind-unknown, kind-functor, Worded}
+use Rattle.terms.specs.Kind.{kind, kind-unknown, kind-functor, Worded}
+use Rattle.terms.specs.declared.kind.Kind.{Kind}
+use Rattle.terms.specs.declared.kind.Kind.the-variants.{Empty, Member, Unknown, Functor, Nothing}
 use Rattle.terms.specs.Lists.{All, none, both}
 use Rattle.terms.specs.Term.{Term, Terms, unknown, empty, with, functor, more, words, words*, list, count}
 use Rattle.terms.specs.Term as term
@@ -23,11 +25,11 @@ taken zero ts = term.none
 taken (suc n) ts = more (top ts) (taken n (drop 1 ts))
 
 unfoldable pub push : List ℕ → Kind → List Term → List Term
-push arities of-empty ts = empty ∷ ts
-push arities of-member ts = with (top ts) (top (drop 1 ts)) ∷ drop 2 ts
-push arities (of-unknown i) ts = unknown i ∷ ts
-push arities (of-functor k) ts = functor k (taken (getD arities k 0) ts) ∷ drop (getD arities k 0) ts
-push arities of-nothing ts = ts
+push arities Empty ts = empty ∷ ts
+push arities Member ts = with (top ts) (top (drop 1 ts)) ∷ drop 2 ts
+push arities (Unknown i) ts = unknown i ∷ ts
+push arities (Functor k) ts = functor k (taken (getD arities k 0) ts) ∷ drop (getD arities k 0) ts
+push arities Nothing ts = ts
 
 unfoldable pub read : Bounds → List ℕ → List ℕ → List Term
 read b arities [] = []

@@ -5,7 +5,9 @@
 // `Reading` (words read back), `Refusal` (the number of each refusal). The laws: `Flat` (as many words as symbols; substitution is flat), `Reading` (unique
 // reading), `Walk` (where terms end), `FormedParts`, `Substitution`.
 //
-// The code: `refusal` has what is told where a call is refused, and `bounds` the numbers. Crate `checks` tests lent words, and `walks` goes through them.
+// The code: `bounds` has the numbers, `kind` what a word stands for, and `refusal` what is told where a call is refused. Crate `checks` tests lent words, and `walks`
+// goes through them.
 
 pub mod bounds;
+pub mod kind;
 pub mod refusal;

@@ -8,9 +8,9 @@ use lib.ListN.{length, drop, getD, drop-of-length-le, length-drop}
 use lib.Seq.{drop-cons}
 use borrow.Author.Tests.{ne-eqb, eq-eqb}
 use Rattle.terms.specs.Bounds.{Bounds, MEMBER}
-use Rattle.terms.specs.Kind.{takes, takes-none}
+use Rattle.terms.specs.Kind.{takes}
 use Rattle.terms.specs.Walk.{span, span-short}
-use Rattle.walks.specs.Occurrence.{in-terms, in-rest, no-terms}
+use Rattle.walks.specs.Occurrence.{in-terms, in-rest}
 use Rattle.walks.specs.declared.occurrence.Occurrence.the-variants.{Absent, Tail, Inside}
 
 module _ (b : Bounds) (arities ws : List ℕ) (p : ℕ) where
@@ -73,7 +73,3 @@ module _ (b : Bounds) (arities ws : List ℕ) (p : ℕ) where
     pub rest-member : (x d : ℕ) → d ≡ 0 → (getD ws p 0 ≡ x → ⊥) → getD ws p 0 ≡ MEMBER → in-rest b arities x (drop p ws) d ≡ in-rest b arities x (drop (p + 1) ws) 1
     unfolding in-rest
     rest-member x d z g i = rw (next, z, ne-eqb (getD ws p 0) x g, eq-eqb (getD ws p 0) 1 i)
-
-    pub rest-end : (x d : ℕ) → d ≡ 0 → (getD ws p 0 ≡ x → ⊥) → (getD ws p 0 ≡ MEMBER → ⊥) → getD ws p 0 < b .first-functor → in-rest b arities x (drop p ws) d ≡ Absent
-    unfolding in-rest
-    rest-end x d z g i l = rw (next, z, ne-eqb (getD ws p 0) x g, ne-eqb (getD ws p 0) MEMBER i, takes-none b arities i l) (no-terms b arities x (drop (p + 1) ws))

@@ -4,9 +4,8 @@ ghost use lib.ListN.{drop};
 ghost use Rattle.terms.specs.Bounds.{edition-one};
 ghost use Rattle.terms.specs.Walk.{Starts};
 ghost use Rattle.walks.specs.Occurrence.{in-terms, in-rest};
-use crate::walk::terms_after;
-use terms::bounds::FIRST_FUNCTOR;
 use terms::bounds::MEMBER;
+use terms::kind::terms_after;
 
 // Not at all; as the tail and nowhere else; or in a member or an argument.
 pub enum Occurrence {
@@ -59,9 +58,6 @@ pub fn find_unknown(arities: &[u8], words: &[u16], from: usize, unknown: u16) ->
                 due = 1;
                 place += 1;
             } else {
-                if word < FIRST_FUNCTOR {
-                    return Occurrence::Absent;
-                }
                 return in_arguments(
                     arities,
                     words,

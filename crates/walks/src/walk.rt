@@ -4,27 +4,8 @@ ghost use mathlib.Core.Path.{_≡_};
 ghost use Prim.Native.Nat.{_+_, _≤_};
 ghost use lib.ListN.{length, drop};
 ghost use Rattle.terms.specs.Bounds.{edition-one};
-ghost use Rattle.terms.specs.Kind.{takes};
 ghost use Rattle.terms.specs.Walk.{span};
-use terms::bounds::FIRST_FUNCTOR;
-use terms::bounds::MEMBER;
-
-// How many terms follow a word.
-pub fn terms_after(arities: &[u8], word: u16) -> u8
-    ensures { λ r. ⌜ r ≡ takes edition-one (now (arities .entry)) word ⌝ }
-{
-    if word == MEMBER {
-        return 2;
-    }
-    if word < FIRST_FUNCTOR {
-        return 0;
-    }
-    let k = (word - FIRST_FUNCTOR) as usize;
-    if k < arities.len() {
-        return arities[k];
-    }
-    0
-}
+use terms::kind::terms_after;
 
 // The place after so many terms, or the length where words stop before that.
 pub fn terms_end(arities: &[u8], words: &[u16], from: usize, terms: usize) -> usize

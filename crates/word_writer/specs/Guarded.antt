@@ -1,19 +1,19 @@
 -- A walk that stops at the first bracket too deep: its laws, and what each kind of word does in a walk.
-use Prim.Native.Nat.{ℕ, suc, _+_, _-_, _<_}
+use Prim.Native.Nat.{ℕ, suc, _+_, _<_}
 use native.Mathlib.Nat.{add-zero}
 use native.Mathlib.Omega.{arith}
-use mathlib.Core.Path.{_≡_, refl}
+use mathlib.Core.Path.{_≡_, refl, ap}
 use mathlib.Core.List.{List, [], _∷_, _++_, append-assoc}
 use lib.Dec.{ltb}
 use lib.ListN.{length, getD}
-use borrow.Author.Tests.{ne-eqb, lt-ltb, le-ltb, ltb-true, ltb-false}
+use borrow.Author.Tests.{lt-ltb, le-ltb, ltb-true, ltb-false}
 use Rattle.terms.specs.Lists.{cases}
 use Rattle.terms.specs.Lists as lists
-use Rattle.terms.specs.Bounds.{Bounds, Proper, MEMBER}
-use Rattle.terms.specs.Kind.{within-first, within-before, within-apart}
+use Rattle.terms.specs.Bounds.{Bounds, Proper}
+use Rattle.terms.specs.Kind.{kind, kind-unknown, kind-functor}
 use Rattle.text.specs.Text.{choose}
 use Rattle.word_writer.specs.OpenBrackets.{Bracket}
-use Rattle.word_writer.specs.WordByWord.{Writes, writes, deep, after, opens, symbol, Walk, ended, too-deep, prepend, onward, next}
+use Rattle.word_writer.specs.WordByWord.{Writes, writes, deep, after, opens, symbol-of, symbol, Walk, ended, too-deep, prepend, onward, next}
 use Rattle.word_writer.specs.declared.begin.Symbol.the-variants.{Empty, Adding, Unknown, Functor}
 
 -- ---- a walk that stops at the first bracket too deep, and goes on where there is none
@@ -53,37 +53,20 @@ prepend-nothing (too-deep p) = refl
 
 module _ {b : Bounds} (arities : List ℕ) (proper : Proper b) where
   pub symbol-empty : symbol b arities 0 ≡ Empty
-  unfolding symbol
-  symbol-empty =
-      rw (
-        within-before (b .first-unknown) (b .unknown-words) 0 (omega (arith, proper .unknowns-after-marks)),
-        lt-ltb 0 (b .first-functor) (omega (arith, proper .functors-after-marks)),
-      )
+  unfolding symbol symbol-of kind
+  symbol-empty = refl
 
   pub symbol-adding : symbol b arities 1 ≡ Adding
-  unfolding symbol
+  unfolding symbol symbol-of kind
   symbol-adding = refl
 
   pub symbol-unknown : (i : ℕ) → i < b .unknown-words → symbol b arities (b .first-unknown + i) ≡ Unknown i
-  unfolding symbol
-  symbol-unknown i h =
-      let z : b .first-unknown + i - b .first-unknown ≡ i = omega arith in
-      rw (
-        ne-eqb (b .first-unknown + i) MEMBER (λ e. omega (arith, proper .unknowns-after-marks)),
-        within-first (b .first-unknown) (b .unknown-words) i h,
-        z,
-      )
+  unfolding symbol symbol-of
+  symbol-unknown i h = ap (symbol-of arities) (kind-unknown proper i h)
 
   pub symbol-functor : (k : ℕ) → k < b .functor-words → symbol b arities (b .first-functor + k) ≡ Functor k (getD arities k 0)
-  unfolding symbol
-  symbol-functor k h =
-      let z : b .first-functor + k - b .first-functor ≡ k = omega arith in
-      rw (
-        ne-eqb (b .first-functor + k) MEMBER (λ e. omega (arith, proper .functors-after-marks)),
-        within-apart (proper .apart) h,
-        le-ltb (b .first-functor + k) (b .first-functor) (omega arith),
-        z,
-      )
+  unfolding symbol symbol-of
+  symbol-functor k h = ap (symbol-of arities) (kind-functor proper k h)
 
 pub next-after : (us : List ℕ) (x : Writes) (p : ℕ) (go : List Bracket → Walk) → next (after us x) p go ≡ prepend us (next x p go)
 unfolding next after prepend

@@ -1,12 +1,13 @@
 -- A term's text, word by word: what each word writes, and which brackets are open after it.
 -- `Tied` proves that this walk over the words of a term writes the text of the term.
-use Prim.Native.Nat.{ℕ, zero, suc, _+_, _-_}
-use mathlib.Core.Bool.{cond}
+use Prim.Native.Nat.{ℕ, zero, suc, _+_}
 use mathlib.Core.List.{List, [], _∷_, _++_}
-use lib.Dec.{eqb, ltb}
+use lib.Dec.{ltb}
 use lib.ListN.{length, getD, drop}
-use Rattle.terms.specs.Bounds.{Bounds, MEMBER}
-use Rattle.terms.specs.Kind.{within}
+use Rattle.terms.specs.Bounds.{Bounds}
+use Rattle.terms.specs.Kind.{kind}
+use Rattle.terms.specs.declared.kind.Kind.{Kind}
+use Rattle.terms.specs.declared.kind.Kind.the-variants as kinds
 use Rattle.text.specs.Text.{choose, unknown-name, functor-name}
 use Rattle.word_writer.specs.OpenBrackets.{Bracket, member, rest, tail, argument, closing, closed, Holds}
 use Rattle.word_writer.specs.Pen.{Wrote}
@@ -18,13 +19,16 @@ use Rattle.word_writer.specs.declared.bracket.Step.the-variants.{On, Dee
 use Rattle.word_writer.specs.declared.put.Passage.{Passage}
 use Rattle.word_writer.specs.declared.put.Passage.the-variants.{To, TooDeep}
 
--- what a word stands for, in words that are known to form terms
+-- what a word stands for, a functor with the number of its arguments; in words that form terms, none stands for nothing
+unfoldable pub symbol-of : List ℕ → Kind → Symbol
+symbol-of arities kinds.Empty = Empty
+symbol-of arities kinds.Member = Adding
+symbol-of arities (kinds.Unknown i) = Unknown i
+symbol-of arities (kinds.Functor k) = Functor k (getD arities k 0)
+symbol-of arities kinds.Nothing = Empty
+
 unfoldable pub symbol : Bounds → List ℕ → ℕ → Symbol
-symbol b arities w =
-    cond (eqb w MEMBER) Adding
-    (cond (within (b .first-unknown) (b .unknown-words) w) (Unknown (w - b .first-unknown))
-    (cond (ltb w (b .first-functor)) Empty
-    (Functor (w - b .first-functor) (getD arities (w - b .first-functor) 0))))
+symbol b arities w = symbol-of arities (kind b w)
 
 -- a word writes bytes and leaves brackets open, or would open one too many
 pub data Writes : Type 0 where

@@ -15,9 +15,8 @@ use crate::bracket::close;
 use crate::put::put_byte;
 use crate::put::put_bytes;
 use crate::put::put_name;
-use terms::bounds::FIRST_FUNCTOR;
-use terms::bounds::FIRST_UNKNOWN;
-use terms::bounds::MEMBER as ADDING;
+use terms::kind::Kind;
+use terms::kind::kind_of;
 
 // What a word stands for: a functor with the number of its arguments.
 pub enum Symbol {
@@ -36,20 +35,18 @@ fn wide(number: u8) -> u16
 pub fn symbol_of(arities: &[u8], word: u16) -> Symbol
     ensures { λ r. ⌜ r ≡ symbol edition-one (now (arities .entry)) word ⌝ }
 {
-    if word == ADDING {
-        return Symbol::Adding;
+    match kind_of(word) {
+        Kind::Empty => Symbol::Empty,
+        Kind::Member => Symbol::Adding,
+        Kind::Unknown(i) => Symbol::Unknown(i),
+        Kind::Functor(k) => {
+            if (k as usize) < arities.len() {
+                return Symbol::Functor(k, arities[k as usize]);
+            }
+            Symbol::Functor(k, 0)
+        }
+        Kind::Nothing => Symbol::Empty,
     }
-    if word < FIRST_UNKNOWN {
-        return Symbol::Empty;
-    }
-    if word < FIRST_FUNCTOR {
-        return Symbol::Unknown(word - FIRST_UNKNOWN);
-    }
-    let k = (word - FIRST_FUNCTOR) as usize;
-    if k < arities.len() {
-        return Symbol::Functor(word - FIRST_FUNCTOR, arities[k]);
-    }
-    Symbol::Functor(word - FIRST_FUNCTOR, 0)
 }
 
 // One bracket more, in which `due` is due.

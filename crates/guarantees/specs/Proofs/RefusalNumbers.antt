@@ -8,11 +8,13 @@ use lib.Dec.{eqb, leb, ltb}
 use lib.ListN.{length}
 use Rattle.terms.specs.Bounds.{edition-one}
 use Rattle.terms.specs.Lists.{here, there, cases, Any-left}
-use Rattle.terms.specs.Kind.{Kind, of-empty, of-member, of-unknown, of-functor, of-nothing, kind}
+use Rattle.terms.specs.Kind.{kind}
 use Rattle.checks.specs.Check.{follows, follow, after, checked, above, check-terms, check-question, check-row, check-answers, after-check}
 use Rattle.terms.specs.Refusal.{number}
 use Rattle.checks.specs.declared.check.Follow.{Follow}
 use Rattle.checks.specs.declared.check.Follow.the-variants.{Terms, Cannot}
+use Rattle.terms.specs.declared.kind.Kind.{Kind}
+use Rattle.terms.specs.declared.kind.Kind.the-variants.{Empty, Member, Unknown, Functor, Nothing}
 use Rattle.terms.specs.declared.refusal.Cause.{Cause}
 use Rattle.terms.specs.declared.refusal.Cause.the-variants.{Byte, Number, Limit, Undeclared, Arguments, Nesting, Buffer, WordsStop, WordsMeaningless, WordsUndeclared, WordsLeft}
 use Rattle.terms.specs.declared.refusal.Refusal.{Refusal}
@@ -63,11 +65,11 @@ data Faults : Follow → Type 0 where
 
 follow-faults : (arities : List ℕ) (n : ℕ) (k : Kind) → Faults (follows arities n k)
 unfolding follows
-follow-faults arities n of-empty = no-fault
-follow-faults arities n of-member = no-fault
-follow-faults arities n (of-unknown i) = cases (ltb i n) (λ t. rw t no-fault) (λ f. rw f (fault refl))
-follow-faults arities n (of-functor k) = cases (ltb k (length arities)) (λ t. rw t no-fault) (λ f. rw f (fault refl))
-follow-faults arities n of-nothing = fault refl
+follow-faults arities n Empty = no-fault
+follow-faults arities n Member = no-fault
+follow-faults arities n (Unknown i) = cases (ltb i n) (λ t. rw t no-fault) (λ f. rw f (fault refl))
+follow-faults arities n (Functor k) = cases (ltb k (length arities)) (λ t. rw t no-fault) (λ f. rw f (fault refl))
+follow-faults arities n Nothing = fault refl
 
 after-numbered : {f : Follow} (place : ℕ) {on : ℕ → Checked} → Faults f → ((m : ℕ) → Numbered (8 ∷ []) (on m)) → Numbered (8 ∷ []) (after f place on)
 unfolding after

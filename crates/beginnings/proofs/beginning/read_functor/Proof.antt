@@ -12,15 +12,8 @@ read-name-requires c κs = search needs
 enum-known-k : tie.Need-enum-known-k
 enum-known-k c = search needs
 
-cast-words : tie.Need-cast-words
-cast-words c =
-    let v = c .before in
-    let n = v .before .before in
-    let p = n .before .before .before .before .pre in
-    omega (arith, named-told (p .0) _ _ _ (n .read-name .ensures) _ _ (v .k .given .1))
-
-add-words : tie.Need-add-words
-add-words c =
+functor-word-requires : tie.Need-functor-word-requires
+functor-word-requires c κs =
     let v = c .before in
     let n = v .before .before in
     let p = n .before .before .before .before .pre in
@@ -31,14 +24,14 @@ mul-words c = search needs
 
 slice-write-words : tie.Need-slice-write-words
 slice-write-words c =
-    let v = c .before in
+    let v = c .before .before in
     let n = v .before .before in
     let p = n .before .before .before .before .pre in
     omega (arith, named-told (p .0) _ _ _ (n .read-name .ensures) _ _ (v .k .given .1))
 
 shared-slice-read-wide : tie.Need-shared-slice-read-wide
 shared-slice-read-wide c =
-    let v = c .before .before in
+    let v = c .before .before .before in
     let n = v .before .before in
     let p = n .before .before .before .before .pre in
     named-told (p .0) _ _ _ (n .read-name .ensures) _ _ (v .k .given .1) .1
@@ -60,10 +53,10 @@ same-length c = search needs
 
 returns : tie.Need-returns
 returns c =
-    let v = c .before .before .before .before in
+    let v = c .before .before .before .before .before in
     let n = v .before .before in
     let p = n .before .before .before .before .pre in
-    (c .open-arguments .ensures .0 _ ∙ rw (c .before .wide .ensures) (sym (functor-read (p .0) _ _ _ _ (n .read-name .ensures) _ _ (v .k .given .1))), omega (arith, named-told (p .0) _ _ _ (n .read-name .ensures) _ _ (v .k .given .1)))
+    (c .open-arguments .ensures .0 _ ∙ rw (c .before .wide .ensures, c .before .before .before .functor-word .ensures) (sym (functor-read (p .0) _ _ _ _ (n .read-name .ensures) _ _ (v .k .given .1))), omega (arith, named-told (p .0) _ _ _ (n .read-name .ensures) _ _ (v .k .given .1)))
 
 returns-2 : tie.Need-returns-2
 returns-2 c =
@@ -77,8 +70,7 @@ read-functor-spec =
     (tie.spec
     read-name-requires
     enum-known-k
-    cast-words
-    add-words
+    functor-word-requires
     mul-words
     slice-write-words
     shared-slice-read-wide

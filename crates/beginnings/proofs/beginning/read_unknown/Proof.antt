@@ -11,15 +11,8 @@ read-name-requires c κs = search needs
 enum-known-i : tie.Need-enum-known-i
 enum-known-i c = search needs
 
-cast-words : tie.Need-cast-words
-cast-words c =
-    let v = c .before in
-    let n = v .before .before in
-    let p = n .before .before .before .pre in
-    omega (arith, named-told (p .0) _ _ _ (n .read-name .ensures) _ _ (v .i .given .1))
-
-add-words : tie.Need-add-words
-add-words c =
+unknown-word-requires : tie.Need-unknown-word-requires
+unknown-word-requires c κs =
     let v = c .before in
     let n = v .before .before in
     let p = n .before .before .before .pre in
@@ -30,13 +23,13 @@ mul-words c = search needs
 
 slice-write-words : tie.Need-slice-write-words
 slice-write-words c =
-    let v = c .before in
+    let v = c .before .before in
     let n = v .before .before in
     let p = n .before .before .before .pre in
     omega (arith, named-told (p .0) _ _ _ (n .read-name .ensures) _ _ (v .i .given .1))
 
-add-t13 : tie.Need-add-t13
-add-t13 c = search needs
+add-t12 : tie.Need-add-t12
+add-t12 c = search needs
 
 enum-known-r : tie.Need-enum-known-r
 enum-known-r c = search needs
@@ -46,10 +39,10 @@ same-length c = search needs
 
 returns : tie.Need-returns
 returns c =
-    let v = c .before in
+    let v = c .before .before in
     let n = v .before .before in
     let p = n .before .before .before .pre in
-    (unknown-read (p .0) _ _ _ (n .read-name .ensures) _ _ (v .i .given .1), omega (arith, named-told (p .0) _ _ _ (n .read-name .ensures) _ _ (v .i .given .1)))
+    (rw (c .unknown-word .ensures) (unknown-read (p .0) _ _ _ (n .read-name .ensures) _ _ (v .i .given .1)), omega (arith, named-told (p .0) _ _ _ (n .read-name .ensures) _ _ (v .i .given .1)))
 
 returns-2 : tie.Need-returns-2
 returns-2 c =
@@ -63,11 +56,10 @@ read-unknown-spec =
     (tie.spec
     read-name-requires
     enum-known-i
-    cast-words
-    add-words
+    unknown-word-requires
     mul-words
     slice-write-words
-    add-t13
+    add-t12
     enum-known-r
     same-length
     returns

@@ -22,8 +22,8 @@ returns c = last-full (c .before .before .before .before .pre .0) _ (c .if1 .tak
 copy-requires : tie.Need-copy-requires
 copy-requires c κs = bindings-parts (c .before .before .before .before .before .pre .0) (c .before .if1 .left)
 
-sub-room : tie.Need-sub-room
-sub-room c = search needs
+unknown-number-requires : tie.Need-unknown-number-requires
+unknown-number-requires c κs = search needs
 
 add-room : tie.Need-add-room
 add-room c = search needs
@@ -41,7 +41,9 @@ add-copy-2 : tie.Need-add-copy-2
 add-copy-2 c = search needs
 
 copy-requires-2 : tie.Need-copy-requires-2
-copy-requires-2 c κs = value-parts (c .before .before .before .before .before .before .before .before .before .pre .0) (c .before .before .before .before .before .if1 .left) (c .before .before .before .copy .ensures) _
+copy-requires-2 c κs =
+    let n = c .before in
+    rw (n .unknown-number .ensures) (value-parts (n .before .before .before .before .before .before .before .before .before .pre .0) (n .before .before .before .before .before .if1 .left) (n .before .before .before .copy .ensures) _)
 
 add-t11 : tie.Need-add-t11
 add-t11 c = search needs
@@ -50,10 +52,14 @@ add-t10 : tie.Need-add-t10
 add-t10 c = search needs
 
 same-length : tie.Need-same-length
-same-length c = wrote-length (last-written (c .before .before .before .before .before .before .before .before .before .before .before .before .pre .0) (c .before .before .before .before .before .before .before .before .if1 .left) (c .before .before .before .before .before .before .copy .ensures) _ (c .before .before .copy2 .ensures))
+same-length c =
+    let n = c .before .before .before .before in
+    wrote-length (last-written (n .before .before .before .before .before .before .before .before .before .pre .0) (n .before .before .before .before .before .if1 .left) (n .before .before .before .copy .ensures) _ (rw (n .unknown-number .ensures) at (c .before .before .copy2 .ensures)))
 
 returns-2 : tie.Need-returns-2
-returns-2 c = last-written (c .before .before .before .before .before .before .before .before .before .before .before .before .pre .0) (c .before .before .before .before .before .before .before .before .if1 .left) (c .before .before .before .before .before .before .copy .ensures) _ (c .before .before .copy2 .ensures)
+returns-2 c =
+    let n = c .before .before .before .before in
+    last-written (n .before .before .before .before .before .before .before .before .before .pre .0) (n .before .before .before .before .before .if1 .left) (n .before .before .before .copy .ensures) _ (rw (n .unknown-number .ensures) at (c .before .before .copy2 .ensures))
 
 pub bind-last-spec : {M : Type 1} → statement M
 bind-last-spec =
@@ -65,7 +71,7 @@ bind-last-spec =
     add-if1-2
     returns
     copy-requires
-    sub-room
+    unknown-number-requires
     add-room
     mul-room
     slice-write-room

@@ -37,7 +37,7 @@ use Rattle.term_places.proofs.places.resolve.Reads as resolve-reads
 use Rattle.term_places.proofs.places.rest.Reads as rest-reads
 use Rattle.term_places.proofs.places.term_end.Reads as term-end-reads
 use Rattle.term_places.proofs.scan.covers.Reads as covers-reads
-use Rattle.walks.proofs.walk.terms_after.Reads as terms-after-reads
+use Rattle.terms.proofs.kind.terms_after.Reads as terms-after-reads
 use Rattle.compare.proofs.compare.+compare+each_meets+kernels+meets+same.{statement}
 use Rattle.compare.proofs.compare.+compare+each_meets+kernels+meets+same.Tie.{close}
 

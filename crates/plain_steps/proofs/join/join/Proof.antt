@@ -52,44 +52,41 @@ same-length-2 c = search needs
 returns-2 : tie.Need-returns-2
 returns-2 c = joined-names (c .before .before .before .before .before .before .before .before .before .before .before .before .args .arities .now) (c .before .before .before .before .before .before .before .before .before .before .before .before .pre) (c .before .before .before .before .before .before .before .gather .ensures .0) (c .before .before .before .before .before .before .before .gather .ensures .1) (c .before .before .is-in .ensures) (c .before .if1 .left) (c .if2 .taken)
 
-cast-room : tie.Need-cast-room
-cast-room c = search needs
-
-add-room : tie.Need-add-room
-add-room c = search needs
+unknown-word-requires : tie.Need-unknown-word-requires
+unknown-word-requires c κs = search needs
 
 mul-room : tie.Need-mul-room
 mul-room c =
-    let m = m-within (c .before .before .before .before .before .before .before .before .before .before .before .before .args .arities .now) (c .before .before .before .before .before .before .before .before .before .before .before .before .pre) (c .before .before .before .before .before .before .before .gather .ensures .0) (c .before .before .before .before .before .before .before .gather .ensures .1) in
-    let l = long (c .before .before .before .before .before .before .before .before .before .before .before .before .args .arities .now) (c .before .before .before .before .before .before .before .before .before .before .before .before .pre) (c .before .before .before .before .before .before .before .gather .ensures .0) (c .before .before .before .before .before .before .before .gather .ensures .1) in
-    omega (arith, c .before .before .before .before .before .before .before .before .before .before .before .before .pre .parts .by-within, c .before .before .before .before .before .before .before .before .before .before .before .before .pre .parts .small)
-
-slice-write-room : tie.Need-slice-write-room
-slice-write-room c =
-    let m = m-within (c .before .before .before .before .before .before .before .before .before .before .before .before .args .arities .now) (c .before .before .before .before .before .before .before .before .before .before .before .before .pre) (c .before .before .before .before .before .before .before .gather .ensures .0) (c .before .before .before .before .before .before .before .gather .ensures .1) in
-    let l = long (c .before .before .before .before .before .before .before .before .before .before .before .before .args .arities .now) (c .before .before .before .before .before .before .before .before .before .before .before .before .pre) (c .before .before .before .before .before .before .before .gather .ensures .0) (c .before .before .before .before .before .before .before .gather .ensures .1) in
-    omega (arith, c .before .before .before .before .before .before .before .before .before .before .before .before .pre .parts .by-within, c .before .before .before .before .before .before .before .before .before .before .before .before .pre .parts .small)
-
-add-finish-pile : tie.Need-add-finish-pile
-add-finish-pile c =
     let m = m-within (c .before .before .before .before .before .before .before .before .before .before .before .before .before .args .arities .now) (c .before .before .before .before .before .before .before .before .before .before .before .before .before .pre) (c .before .before .before .before .before .before .before .before .gather .ensures .0) (c .before .before .before .before .before .before .before .before .gather .ensures .1) in
     let l = long (c .before .before .before .before .before .before .before .before .before .before .before .before .before .args .arities .now) (c .before .before .before .before .before .before .before .before .before .before .before .before .before .pre) (c .before .before .before .before .before .before .before .before .gather .ensures .0) (c .before .before .before .before .before .before .before .before .gather .ensures .1) in
     omega (arith, c .before .before .before .before .before .before .before .before .before .before .before .before .before .pre .parts .by-within, c .before .before .before .before .before .before .before .before .before .before .before .before .before .pre .parts .small)
+
+slice-write-room : tie.Need-slice-write-room
+slice-write-room c =
+    let m = m-within (c .before .before .before .before .before .before .before .before .before .before .before .before .before .args .arities .now) (c .before .before .before .before .before .before .before .before .before .before .before .before .before .pre) (c .before .before .before .before .before .before .before .before .gather .ensures .0) (c .before .before .before .before .before .before .before .before .gather .ensures .1) in
+    let l = long (c .before .before .before .before .before .before .before .before .before .before .before .before .before .args .arities .now) (c .before .before .before .before .before .before .before .before .before .before .before .before .before .pre) (c .before .before .before .before .before .before .before .before .gather .ensures .0) (c .before .before .before .before .before .before .before .before .gather .ensures .1) in
+    omega (arith, c .before .before .before .before .before .before .before .before .before .before .before .before .before .pre .parts .by-within, c .before .before .before .before .before .before .before .before .before .before .before .before .before .pre .parts .small)
+
+add-finish-pile : tie.Need-add-finish-pile
+add-finish-pile c =
+    let m = m-within (c .before .before .before .before .before .before .before .before .before .before .before .before .before .before .args .arities .now) (c .before .before .before .before .before .before .before .before .before .before .before .before .before .before .pre) (c .before .before .before .before .before .before .before .before .before .gather .ensures .0) (c .before .before .before .before .before .before .before .before .before .gather .ensures .1) in
+    let l = long (c .before .before .before .before .before .before .before .before .before .before .before .before .before .before .args .arities .now) (c .before .before .before .before .before .before .before .before .before .before .before .before .before .before .pre) (c .before .before .before .before .before .before .before .before .before .gather .ensures .0) (c .before .before .before .before .before .before .before .before .before .gather .ensures .1) in
+    omega (arith, c .before .before .before .before .before .before .before .before .before .before .before .before .before .before .pre .parts .by-within, c .before .before .before .before .before .before .before .before .before .before .before .before .before .before .pre .parts .small)
 
 add-finish-pile-2 : tie.Need-add-finish-pile-2
 add-finish-pile-2 c = search needs
 
 finish-pile-requires : tie.Need-finish-pile-requires
-finish-pile-requires c κs = join-parts (c .before .before .before .before .before .before .before .before .before .before .before .before .before .args .arities .now) (c .before .before .before .before .before .before .before .before .before .before .before .before .before .pre) (c .before .before .before .before .before .before .before .before .gather .ensures .0) (c .before .before .before .before .before .before .before .before .gather .ensures .1) (c .before .if2 .left)
+finish-pile-requires c κs = rw (c .before .unknown-word .ensures) (join-parts (c .before .before .before .before .before .before .before .before .before .before .before .before .before .before .args .arities .now) (c .before .before .before .before .before .before .before .before .before .before .before .before .before .before .pre) (c .before .before .before .before .before .before .before .before .before .gather .ensures .0) (c .before .before .before .before .before .before .before .before .before .gather .ensures .1) (c .before .before .if2 .left))
 
 of-sized-requires : tie.Need-of-sized-requires
 of-sized-requires c κs = search needs
 
 same-length-3 : tie.Need-same-length-3
-same-length-3 c = finished-length (c .before .before .before .finish-pile .ensures) ∙ value-long (c .before .before .before .before .before .before .before .before .before .before .before .before .before .before .before .before .before .args .arities .now) (c .before .before .before .before .before .before .before .before .before .before .before .before .before .before .before .before .before .pre) (c .before .before .before .before .before .before .before .before .before .before .before .before .gather .ensures .0) (c .before .before .before .before .before .before .before .before .before .before .before .before .gather .ensures .1)
+same-length-3 c = finished-length (rw (c .before .before .before .before .before .unknown-word .ensures) at (c .before .before .before .finish-pile .ensures)) ∙ value-long (c .before .before .before .before .before .before .before .before .before .before .before .before .before .before .before .before .before .before .args .arities .now) (c .before .before .before .before .before .before .before .before .before .before .before .before .before .before .before .before .before .before .pre) (c .before .before .before .before .before .before .before .before .before .before .before .before .before .gather .ensures .0) (c .before .before .before .before .before .before .before .before .before .before .before .before .before .gather .ensures .1)
 
 returns-3 : tie.Need-returns-3
-returns-3 c = rw (c .of-sized .ensures) (joined-live (c .before .before .before .before .before .before .before .before .before .before .before .before .before .before .before .before .before .args .arities .now) (c .before .before .before .before .before .before .before .before .before .before .before .before .before .before .before .before .before .pre) (c .before .before .before .before .before .before .before .before .before .before .before .before .gather .ensures .0) (c .before .before .before .before .before .before .before .before .before .before .before .before .gather .ensures .1) (c .before .before .before .before .before .before .before .is-in .ensures) (c .before .before .before .before .before .before .if1 .left) (c .before .before .before .before .before .if2 .left) (c .before .before .before .finish-pile .ensures))
+returns-3 c = rw (c .of-sized .ensures) (joined-live (c .before .before .before .before .before .before .before .before .before .before .before .before .before .before .before .before .before .before .args .arities .now) (c .before .before .before .before .before .before .before .before .before .before .before .before .before .before .before .before .before .before .pre) (c .before .before .before .before .before .before .before .before .before .before .before .before .before .gather .ensures .0) (c .before .before .before .before .before .before .before .before .before .before .before .before .before .gather .ensures .1) (c .before .before .before .before .before .before .before .before .is-in .ensures) (c .before .before .before .before .before .before .before .if1 .left) (c .before .before .before .before .before .before .if2 .left) (rw (c .before .before .before .before .before .unknown-word .ensures) at (c .before .before .before .finish-pile .ensures)))
 
 pub join-spec : {M : Type 1} → statement M
 join-spec =
@@ -108,8 +105,7 @@ join-spec =
     returns
     same-length-2
     returns-2
-    cast-room
-    add-room
+    unknown-word-requires
     mul-room
     slice-write-room
     add-finish-pile

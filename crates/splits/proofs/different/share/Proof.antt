@@ -22,11 +22,8 @@ add-second c = search needs
 add-value : tie.Need-add-value
 add-value c = search needs
 
-cast-word : tie.Need-cast-word
-cast-word c = search needs
-
-add-word : tie.Need-add-word
-add-word c = search needs
+unknown-word-requires : tie.Need-unknown-word-requires
+unknown-word-requires c κs = omega (arith, c .before .pre .few)
 
 add-room : tie.Need-add-room
 add-room c = search needs
@@ -44,7 +41,10 @@ mul-room-2 : tie.Need-mul-room-2
 mul-room-2 c = search needs
 
 slice-write-room-2 : tie.Need-slice-write-room-2
-slice-write-room-2 c = omega (arith, first-long _ _ _ _ _ (c .before .before .before .pre), c .before .before .before .pre .space, c .before .before .before .pre .u-within, c .before .before .before .pre .t-within, c .before .before .before .pre .few)
+slice-write-room-2 c =
+    let w = c .before .before in
+    let p = w .before .before .pre in
+    rw (w .unknown-word .ensures) (omega (arith, first-long _ _ _ _ _ p, p .space, p .u-within, p .t-within, p .few))
 
 add-replace : tie.Need-add-replace
 add-replace c = search needs
@@ -53,13 +53,20 @@ add-replace-2 : tie.Need-add-replace-2
 add-replace-2 c = search needs
 
 replace-requires : tie.Need-replace-requires
-replace-requires c κs = value-parts _ _ _ _ _ (c .before .before .before .before .before .before .pre)
+replace-requires c κs =
+    let w = c .before .before .before .before .before in
+    rw (w .unknown-word .ensures) (value-parts _ _ _ _ _ (w .before .before .pre))
 
 same-length : tie.Need-same-length
-same-length c = share-long _ _ _ _ _ (c .before .before .before .before .before .before .before .before .before .pre) _ (c .before .before .replace .ensures .1)
+same-length c =
+    let w = c .before .before .before .before .before .before .before .before in
+    share-long _ _ _ _ _ (w .before .before .pre) _ (rw (w .unknown-word .ensures) at (c .before .before .replace .ensures .1))
 
 returns : tie.Need-returns
-returns c = record { shared = λ l₀ p s H e h. values-shared _ _ _ _ _ (c .before .before .before .before .before .before .before .before .before .pre) H e h (c .before .before .replace .ensures .0) (c .before .before .replace .ensures .1) }
+returns c =
+    let w = c .before .before .before .before .before .before .before .before in
+    let f = rw (w .unknown-word .ensures) at (c .before .before .replace .ensures) in
+    record { shared = λ l₀ p s H e h. values-shared _ _ _ _ _ (w .before .before .pre) H e h (f .0) (f .1) }
 
 pub share-spec : {M : Type 1} → statement M
 share-spec =
@@ -71,8 +78,7 @@ share-spec =
     add-first-3
     add-second
     add-value
-    cast-word
-    add-word
+    unknown-word-requires
     add-room
     mul-room
     slice-write-room

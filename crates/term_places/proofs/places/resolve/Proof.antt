@@ -2,21 +2,21 @@ use mathlib.Core.Path.{sym, _∙_}
 use native.Mathlib.Omega.{arith}
 use borrow.Author.Needs.{needs}
 use Rattle.terms.specs.Bounds.{edition-one}
-use Rattle.term_places.proofs.Words.{resolved-low, resolved-high, resolved-unknown}
+use Rattle.term_places.proofs.Staying.{unknown-from, unknown-below, resolved-other, resolved-unknown}
 use Rattle.term_places.proofs.places.resolve.Statement.{statement}
 use Rattle.term_places.proofs.places.resolve.Tie as tie
 
-mul-w : tie.Need-mul-w
-mul-w c = search needs
+mul-word : tie.Need-mul-word
+mul-word c = search needs
 
-shared-slice-read-w : tie.Need-shared-slice-read-w
-shared-slice-read-w c = search needs
+shared-slice-read-word : tie.Need-shared-slice-read-word
+shared-slice-read-word c = search needs
 
-returns : tie.Need-returns
-returns c = sym (resolved-low _ _ _ (c .if1 .taken))
+is-unknown-requires : tie.Need-is-unknown-requires
+is-unknown-requires c κs = search needs
 
-returns-2 : tie.Need-returns-2
-returns-2 c = sym (resolved-high _ _ _ (c .if2 .taken))
+unknown-number-requires : tie.Need-unknown-number-requires
+unknown-number-requires c κs = unknown-from _ (sym (c .before .is-unknown .ensures) ∙ c .if1 .taken)
 
 wide-requires : tie.Need-wide-requires
 wide-requires c κs = search needs
@@ -27,28 +27,36 @@ mul-wide c = search needs
 shared-slice-read-wide : tie.Need-shared-slice-read-wide
 unfolding edition-one
 shared-slice-read-wide c =
-    let e = c .before .before in
-    let v = e .before .before .before .before .before .pre .valued (e .before .if1 .left) (e .if2 .left) in
-    omega arith
+    let n = c .before .before in
+    let i = n .before .before in
+    let t = sym (i .is-unknown .ensures) ∙ n .before .if1 .taken in
+    let v = i .before .before .before .before .pre .valued (unknown-from _ t) (unknown-below _ t) in
+    omega (arith, unknown-from _ t, v, n .unknown-number .ensures, c .before .wide .ensures)
 
 wide-requires-2 : tie.Need-wide-requires-2
 wide-requires-2 c κs = search needs
 
-returns-3 : tie.Need-returns-3
-returns-3 c =
-    let e = c .before .before .before in
-    c .wide2 .ensures ∙ rw (c .before .before .wide .ensures) (sym (resolved-unknown _ _ _ (e .before .if1 .left) (e .if2 .left)))
+returns : tie.Need-returns
+returns c =
+    let n = c .before .before .before in
+    let i = n .before .before in
+    c .wide2 .ensures
+    ∙ rw (c .before .before .wide .ensures, n .unknown-number .ensures) (sym (resolved-unknown _ _ _ (sym (i .is-unknown .ensures) ∙ n .before .if1 .taken)))
+
+returns-2 : tie.Need-returns-2
+returns-2 c = sym (resolved-other _ _ _ (sym (c .before .is-unknown .ensures) ∙ c .if1 .left))
 
 pub resolve-spec : {M : Type 1} → statement M
 resolve-spec =
     tie.close
     (tie.spec
-    mul-w
-    shared-slice-read-w
-    returns
-    returns-2
+    mul-word
+    shared-slice-read-word
+    is-unknown-requires
+    unknown-number-requires
     wide-requires
     mul-wide
     shared-slice-read-wide
     wide-requires-2
-    returns-3)
+    returns
+    returns-2)

@@ -6,7 +6,7 @@ use borrow.Author.Needs.{needs}
 use native.Mathlib.Omega.{arith}
 use Rattle.terms.specs.Bounds.{edition-one}
 use Rattle.walks.specs.Occurrence.{in-rest}
-use Rattle.walks.proofs.Walking.{rest-here, rest-step, rest-tail, rest-member, rest-end, rest-arguments, rest-out}
+use Rattle.walks.proofs.Walking.{rest-here, rest-step, rest-tail, rest-member, rest-arguments, rest-out}
 use Rattle.walks.proofs.occurrence.find_unknown.Statement.{statement}
 use Rattle.walks.proofs.occurrence.find_unknown.Tie as tie
 
@@ -68,11 +68,6 @@ loop-again-2 : tie.Need-loop-again-2 Inv-loop μ-loop
 loop-again-2 c =
     (c .before .before .before .before .before .loop .inv .0 ∙ rest-member edition-one _ _ _ (c .before .before .before .before .loop-test .taken) _ _ (omega arith) (c .before .if3 .left) (c .if4 .taken), omega arith)
 
-returns-3 : tie.Need-returns-3 Inv-loop μ-loop
-unfolding edition-one
-returns-3 c =
-    sym (c .before .before .before .before .before .before .loop .inv .0 ∙ rest-end edition-one _ _ _ (c .before .before .before .before .before .loop-test .taken) _ _ (omega arith) (c .before .before .if3 .left) (c .before .if4 .left) (c .if5 .taken))
-
 add-in-arguments : tie.Need-add-in-arguments Inv-loop μ-loop
 add-in-arguments c = search needs
 
@@ -80,16 +75,16 @@ terms-after-requires-2 : tie.Need-terms-after-requires-2 Inv-loop μ-loop
 terms-after-requires-2 c κs = search needs
 
 in-arguments-requires : tie.Need-in-arguments-requires Inv-loop μ-loop
-in-arguments-requires c κs = record { inside = omega arith; few = c .before .before .before .before .before .before .before .before .before .before .pre .few }
+in-arguments-requires c κs = record { inside = omega arith; few = c .before .before .before .before .before .before .before .before .before .pre .few }
+
+returns-3 : tie.Need-returns-3 Inv-loop μ-loop
+returns-3 c =
+    c .in-arguments .ensures
+    ∙ sym (c .before .before .before .before .before .before .before .loop .inv .0
+    ∙ rest-arguments edition-one _ _ _ (c .before .before .before .before .before .before .loop-test .taken) (c .before .terms-after2 .ensures) _ _ (omega arith) (c .before .before .before .if3 .left) (c .before .before .if4 .left))
 
 returns-4 : tie.Need-returns-4 Inv-loop μ-loop
-returns-4 c =
-    c .in-arguments .ensures
-    ∙ sym (c .before .before .before .before .before .before .before .before .loop .inv .0
-    ∙ rest-arguments edition-one _ _ _ (c .before .before .before .before .before .before .before .loop-test .taken) (c .before .terms-after2 .ensures) _ _ (omega arith) (c .before .before .before .before .if3 .left) (c .before .before .before .if4 .left))
-
-returns-5 : tie.Need-returns-5 Inv-loop μ-loop
-returns-5 c = sym (c .before .loop .inv .0 ∙ rest-out edition-one _ _ _ _ _ (c .loop-test .left))
+returns-4 c = sym (c .before .loop .inv .0 ∙ rest-out edition-one _ _ _ _ _ (c .loop-test .left))
 
 pub find-unknown-spec : {M : Type 1} → statement M
 find-unknown-spec =
@@ -112,9 +107,8 @@ find-unknown-spec =
     add-place-2
     loop-less-2
     loop-again-2
-    returns-3
     add-in-arguments
     terms-after-requires-2
     in-arguments-requires
-    returns-4
-    returns-5)
+    returns-3
+    returns-4)

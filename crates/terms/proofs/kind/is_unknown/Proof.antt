@@ -1,8 +1,8 @@
 use borrow.Author.Tests.{le-leb, lt-leb}
 use Rattle.terms.specs.Kind.{within}
 use Rattle.terms.specs.Bounds.{FIRST-UNKNOWN}
-use Rattle.rows.proofs.walk.is_unknown.Statement.{statement}
-use Rattle.rows.proofs.walk.is_unknown.Tie as tie
+use Rattle.terms.proofs.kind.is_unknown.Statement.{statement}
+use Rattle.terms.proofs.kind.is_unknown.Tie as tie
 
 returns : tie.Need-returns
 unfolding within

@@ -1,12 +1,12 @@
--- `walks::walk::terms_after` meets its contract: at each `return` the tests that led there say which case of `takes` holds.
+-- `terms::kind::terms_after` meets its contract: at each `return` the tests that led there say which case of `takes` holds.
 use mathlib.Core.Path.{sym, _∙_}
 use native.Mathlib.Omega.{arith}
 use lib.ListN.{List·getD-eq-default}
 use Rattle.terms.specs.Bounds.{edition-one, FIRST-UNKNOWN, UNKNOWN-WORDS}
 use Rattle.terms.specs.Kind.{takes, takes-none, takes-table, within-after}
 use borrow.Author.Needs.{needs}
-use Rattle.walks.proofs.walk.terms_after.Statement.{statement}
-use Rattle.walks.proofs.walk.terms_after.Tie as tie
+use Rattle.terms.proofs.kind.terms_after.Statement.{statement}
+use Rattle.terms.proofs.kind.terms_after.Tie as tie
 
 returns : tie.Need-returns
 unfolding takes edition-one
