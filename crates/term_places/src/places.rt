@@ -4,8 +4,8 @@ ghost use Rattle.terms.specs.Bounds.{edition-one};
 ghost use Rattle.term_places.specs.Standing.{Within};
 ghost use Rattle.term_places.specs.Places.{held, end, resolved, rest-of, Resolvable, AtPlace, AtMember, KernelOf};
 use terms::bounds::MEMBER;
-use terms::kind::is_unknown;
-use terms::kind::unknown_number;
+use terms::kind::Kind;
+use terms::kind::kind_of;
 use walks::walk::terms_end;
 
 pub fn wide(x: u16) -> usize
@@ -27,11 +27,10 @@ pub fn resolve(words: &[u16], starts: &[u16], p: usize) -> usize
     requires { ⌜ Resolvable edition-one (now words) (now starts) p ⌝ }
     ensures { λ r. ⌜ r ≡ resolved edition-one (now (words .entry)) (now (starts .entry)) p ⌝ }
 {
-    let word = words[p];
-    if is_unknown(word) {
-        return wide(starts[wide(unknown_number(word))]);
+    match kind_of(words[p]) {
+        Kind::Unknown(i) => wide(starts[wide(i)]),
+        Kind::Empty | Kind::Member | Kind::Functor(_) | Kind::Nothing => p,
     }
-    p
 }
 
 // The place of the rest where a member adding stands.
