@@ -6,10 +6,10 @@ use equality::solves;
 use results::compared::Equality;
 use results::compared::Solving;
 use terms::bounds::EMPTY;
-use terms::bounds::FIRST_FUNCTOR;
-use terms::bounds::FIRST_UNKNOWN;
 use terms::bounds::FUNCTORS;
 use terms::bounds::MEMBER;
+use terms::kind::functor_word;
+use terms::kind::unknown_word;
 use terms::refusal::Refusal;
 use terms::refusal::number_of;
 
@@ -17,9 +17,6 @@ const LINE_END: u8 = 10;
 
 // the words of a question, of the bar and of a row
 const LINE_WORDS: usize = 8193;
-
-// the word of unknown 1
-const SECOND_UNKNOWN: u16 = 1001;
 
 // the word of the letter |
 const BAR: u16 = 2124;
@@ -32,12 +29,12 @@ fn word_of(letter: u8) -> u16 {
         return MEMBER;
     }
     if letter == b'x' {
-        return FIRST_UNKNOWN;
+        return unknown_word(0);
     }
     if letter == b'y' {
-        return SECOND_UNKNOWN;
+        return unknown_word(1);
     }
-    FIRST_FUNCTOR + letter as u16
+    functor_word(letter as usize)
 }
 
 fn tell_refusal(refusal: Refusal) {

@@ -74,10 +74,10 @@ module _ (b : Bounds) {w : ℕ} where
       go : Means b w Empty → w ≡ 0
       go (means-empty e) = e
 
-  pub member-told : Member ≡ kind b w → w ≡ 1
+  pub member-told : Member ≡ kind b w → w ≡ MEMBER
   member-told e = go (told e)
     where
-      go : Means b w Member → w ≡ 1
+      go : Means b w Member → w ≡ MEMBER
       go (means-member e) = e
 
   pub unknown-told : {i : ℕ} → Unknown i ≡ kind b w → (w ≡ b .first-unknown + i) × (i < b .unknown-words)

@@ -15,7 +15,9 @@ read-header-requires : tie.Need-read-header-requires
 read-header-requires c κs = length-take-le 5 (c .before .before .before .args .row .now) (omega arith)
 
 returns : tie.Need-returns
-returns c = pending-left (c .before .before .before .before .before .before .args .row .now) (c .before .before .read-header .ensures) (c .before .before .before .before .before .before .args .answers .now) (c .before .before .before .before .before .before .args .counts) (c .if1 .taken)
+returns c =
+    let start = c .before .before .before .before .before .before in
+    pending-left (start .args .row .now) (c .before .before .read-header .ensures) (start .args .answers .now) (start .args .counts) (c .if1 .taken)
 
 returns-2 : tie.Need-returns-2
 returns-2 c =
@@ -27,7 +29,9 @@ sub-if3 : tie.Need-sub-if3
 sub-if3 c = search needs
 
 add-if3 : tie.Need-add-if3
-add-if3 c = omega (arith, within-row (c .before .before .before .before .before .before .before .before .args .row .now) (c .before .before .before .before .read-header .ensures) (c .before .before .before .before .before .before .before .before .pre) (c .before .before .if1 .left) (c .if2 .left))
+add-if3 c =
+    let start = c .before .before .before .before .before .before .before .before in
+    omega (arith, within-row (start .args .row .now) (c .before .before .before .before .read-header .ensures) (start .pre) (c .before .before .if1 .left) (c .if2 .left))
 
 returns-3 : tie.Need-returns-3
 returns-3 c =

@@ -83,10 +83,16 @@ same-length : tie.Need-same-length
 same-length c = search needs
 
 returns : tie.Need-returns
-returns c = let v = c .before .before .before .before .before .before .before .before .before .before .before .before .before .before .before .args in copied (v .room .now) (v .from) (v .x) (v .to) (c .before .before .before .before .before .before .before .before .before .before .before .before .before .before .before .pre .from-within) (c .before .before .before .before .before .is-none .ensures) (c .before .before .before .before .if1 .taken) (c .before .before .put-eight .ensures)
+returns c =
+    let start = c .before .before .before .before .before .before .before .before .before .before .before .before .before .before .before in
+    let v = start .args in
+    copied (v .room .now) (v .from) (v .x) (v .to) (start .pre .from-within) (c .before .before .before .before .before .is-none .ensures) (c .before .before .before .before .if1 .taken) (c .before .before .put-eight .ensures)
 
 returns-2 : tie.Need-returns-2
-returns-2 c = let v = c .before .before .before .before .before .before .before .before .before .before .before .args in left (v .room .now) (v .from) (v .x) (v .to) (c .before .before .before .before .before .before .before .before .before .before .before .pre .from-within) (c .before .is-none .ensures) (c .if1 .left)
+returns-2 c =
+    let start = c .before .before .before .before .before .before .before .before .before .before .before in
+    let v = start .args in
+    left (v .room .now) (v .from) (v .x) (v .to) (start .pre .from-within) (c .before .is-none .ensures) (c .if1 .left)
 
 pub copy-eight-spec : {M : Type 1} → statement M
 copy-eight-spec =

@@ -29,7 +29,12 @@ returns-8 : tie.Need-returns-8
 returns-8 c = let v = c .before .before .before .before .before .before .before .before .args in one-is-x (v .x) (v .a) (v .b) (v .c) (v .d) (v .e) (v .f) (v .g) (v .h) 7 (omega arith) (c .if8 .taken)
 
 returns-9 : tie.Need-returns-9
-returns-9 c = let v = c .before .before .before .before .before .before .before .before .args in none-is-x (v .x) (v .a) (v .b) (v .c) (v .d) (v .e) (v .f) (v .g) (v .h) (c .before .before .before .before .before .before .before .if1 .left) (c .before .before .before .before .before .before .if2 .left) (c .before .before .before .before .before .if3 .left) (c .before .before .before .before .if4 .left) (c .before .before .before .if5 .left) (c .before .before .if6 .left) (c .before .if7 .left) (c .if8 .left)
+returns-9 c =
+    let start = c .before .before .before .before .before .before .before .before in
+    let if1 = c .before .before .before .before .before .before .before .if1 .left in
+    let if2 = c .before .before .before .before .before .before .if2 .left in
+    let v = start .args in
+    none-is-x (v .x) (v .a) (v .b) (v .c) (v .d) (v .e) (v .f) (v .g) (v .h) if1 if2 (c .before .before .before .before .before .if3 .left) (c .before .before .before .before .if4 .left) (c .before .before .before .if5 .left) (c .before .before .if6 .left) (c .before .if7 .left) (c .if8 .left)
 
 pub is-none-spec : {M : Type 1} → statement M
 is-none-spec = tie.close (tie.spec returns returns-2 returns-3 returns-4 returns-5 returns-6 returns-7 returns-8 returns-9)

@@ -14,7 +14,9 @@ slice-read-w : tie.Need-slice-read-w
 slice-read-w c = search needs
 
 returns : tie.Need-returns
-returns c = same-full (c .before .before .before .before .args .room .now) (c .before .before .before .before .args .from) (c .before .before .before .before .args .x) (c .before .before .before .before .args .by) (c .before .before .before .before .args .m) (c .before .before .before .before .args .to) (c .before .before .before .before .args .capacity) (c .before .before .before .before .pre .from-within) (c .before .before .before .before .pre .by-within) (c .before .if1 .taken) (c .if2 .taken)
+returns c =
+    let start = c .before .before .before .before in
+    same-full (start .args .room .now) (start .args .from) (start .args .x) (start .args .by) (start .args .m) (start .args .to) (start .args .capacity) (start .pre .from-within) (start .pre .by-within) (c .before .if1 .taken) (c .if2 .taken)
 
 copy-requires : tie.Need-copy-requires
 copy-requires c κs =
@@ -30,7 +32,9 @@ returns-2 c =
     (S .0, c .before .before .copy .ensures ∙ S .1)
 
 returns-3 : tie.Need-returns-3
-returns-3 c = other-full (c .before .before .before .before .args .room .now) (c .before .before .before .before .args .from) (c .before .before .before .before .args .x) (c .before .before .before .before .args .by) (c .before .before .before .before .args .m) (c .before .before .before .before .args .to) (c .before .before .before .before .args .capacity) (c .before .before .before .before .pre .from-within) (c .before .before .before .before .pre .by-within) (c .before .if1 .left) (c .if3 .taken)
+returns-3 c =
+    let start = c .before .before .before .before in
+    other-full (start .args .room .now) (start .args .from) (start .args .x) (start .args .by) (start .args .m) (start .args .to) (start .args .capacity) (start .pre .from-within) (start .pre .by-within) (c .before .if1 .left) (c .if3 .taken)
 
 mul-room : tie.Need-mul-room
 mul-room c = search needs
@@ -42,7 +46,9 @@ same-length-2 : tie.Need-same-length-2
 same-length-2 c = search needs
 
 returns-4 : tie.Need-returns-4
-returns-4 c = other-fits (c .before .before .before .before .args .room .now) (c .before .before .before .before .args .from) (c .before .before .before .before .args .x) (c .before .before .before .before .args .by) (c .before .before .before .before .args .m) (c .before .before .before .before .args .to) (c .before .before .before .before .args .capacity) (c .before .before .before .before .pre .from-within) (c .before .before .before .before .pre .by-within) (c .before .if1 .left) (omega (arith, c .if3 .left))
+returns-4 c =
+    let start = c .before .before .before .before in
+    other-fits (start .args .room .now) (start .args .from) (start .args .x) (start .args .by) (start .args .m) (start .args .to) (start .args .capacity) (start .pre .from-within) (start .pre .by-within) (c .before .if1 .left) (omega (arith, c .if3 .left))
 
 pub replace-word-spec : {M : Type 1} → statement M
 replace-word-spec =

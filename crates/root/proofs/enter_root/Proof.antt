@@ -41,7 +41,9 @@ same-length-2 : tie.Need-same-length-2
 same-length-2 c = search needs
 
 returns : tie.Need-returns
-returns c = λ to S. c .before .before .before .before .search-on .ensures to (root-held S refl (c .before .before .before .before .before .before .before .before .before .before .before .before .note .ensures) (c .before .before .before .before .before .before .before .before .noted .given .1))
+returns c =
+    let note-told = c .before .before .before .before .before .before .before .before .before .before .before .before .note .ensures in
+    λ to S. c .before .before .before .before .search-on .ensures to (root-held S refl note-told (c .before .before .before .before .before .before .before .before .noted .given .1))
 
 same-length-3 : tie.Need-same-length-3
 same-length-3 c = search needs

@@ -22,7 +22,10 @@ enum-known-turn : tie.Need-enum-known-turn Inv-loop μ-loop
 enum-known-turn c = search needs
 
 loop-less : tie.Need-loop-less Inv-loop μ-loop
-loop-less c = less (c .before .before .before .before .before .before .before .before .before .before .loop .inv) (c .before .before .before .before .before .before .before .take-turn .ensures) (c .before .turn .given .1)
+loop-less c =
+    let invariant = c .before .before .before .before .before .before .before .before .before .before .loop .inv in
+    let take-turn-told = c .before .before .before .before .before .before .before .take-turn .ensures in
+    less invariant take-turn-told (c .before .turn .given .1)
 
 loop-again : tie.Need-loop-again Inv-loop μ-loop
 loop-again c =
@@ -42,7 +45,10 @@ same-length-2 : tie.Need-same-length-2 Inv-loop μ-loop
 same-length-2 c = (c .before .before .before .before .room .given) ∙ (c .before .before .before .before .before .before .before .before .before .before .loop .inv .room-long)
 
 returns : tie.Need-returns Inv-loop μ-loop
-returns c = ends-so (c .before .before .before .before .before .before .before .before .before .before .loop .inv) (c .before .before .before .before .before .before .before .take-turn .ensures) (c .before .turn2 .given .1)
+returns c =
+    let invariant = c .before .before .before .before .before .before .before .before .before .before .loop .inv in
+    let take-turn-told = c .before .before .before .before .before .before .before .take-turn .ensures in
+    ends-so invariant take-turn-told (c .before .turn2 .given .1)
 
 pub search-on-spec : {M : Type 1} → statement M
 search-on-spec =

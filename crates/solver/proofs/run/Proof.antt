@@ -27,7 +27,9 @@ same-length-2 : tie.Need-same-length-2
 same-length-2 c = search needs
 
 returns : tie.Need-returns
-returns c = within-limits _ _ _ _ _ _ _ _ _ (sym (c .before .before .before .before .before .before .before .before .before .before .new .ensures) ∙ c .before .before .before .before .before .before .before .before .limits .given .1) (c .before .before .before .before .run-within .ensures)
+returns c =
+    let new-told = c .before .before .before .before .before .before .before .before .before .before .new .ensures in
+    within-limits _ _ _ _ _ _ _ _ _ (sym new-told ∙ c .before .before .before .before .before .before .before .before .limits .given .1) (c .before .before .before .before .run-within .ensures)
 
 returns-2 : tie.Need-returns-2
 returns-2 c = above-limits _ _ _ _ _ _ _ _ _ (sym (c .before .before .new .ensures) ∙ c .enum-told .given .1)

@@ -10,7 +10,9 @@ returns : tie.Need-returns
 returns c = no-steps (c .before .before .before .before .before .before .pre) (c .before .before .before .before .before .before .args .answers .now) (c .if1 .taken)
 
 returns-2 : tie.Need-returns-2
-returns-2 c = too-large (c .before .before .before .before .before .before .before .before .pre) (c .before .before .before .before .before .before .before .before .args .answers .now) (c .before .before .if1 .left) (c .if2 .taken)
+returns-2 c =
+    let start = c .before .before .before .before .before .before .before .before in
+    too-large (start .pre) (start .args .answers .now) (c .before .before .if1 .left) (c .if2 .taken)
 
 write-root-requires : tie.Need-write-root-requires
 write-root-requires c κs =

@@ -28,7 +28,10 @@ sub-replace-released c =
     omega arith
 
 replace-released-requires : tie.Need-replace-released-requires
-replace-released-requires c κs = entries-parts (c .before .before .before .before .before .before .before .before .before .before .pre) (c .before .before .before .before .before .before .before .before .before .before .args .arities .now) _ (c .before .before .before .before .before .before .replace-all .ensures .0) (c .before .before .before .before .before .before .replace-all .ensures .1) _ (c .before .before .k .given .1)
+replace-released-requires c κs =
+    let start = c .before .before .before .before .before .before .before .before .before .before in
+    let replace-all-told = c .before .before .before .before .before .before .replace-all .ensures in
+    entries-parts (start .pre) (start .args .arities .now) _ (replace-all-told .0) (replace-all-told .1) _ (c .before .before .k .given .1)
 
 enum-known-l : tie.Need-enum-known-l
 enum-known-l c = search needs
@@ -51,20 +54,31 @@ same-length c = search needs
 
 returns : tie.Need-returns
 unfolding further
-returns c = entries-written (c .before .before .before .before .before .before .before .before .before .before .before .before .before .before .before .before .pre) (c .before .before .before .before .before .before .before .before .before .before .before .before .before .before .before .before .args .arities .now) _ (c .before .before .before .before .before .before .before .before .before .before .before .before .replace-all .ensures .0) (c .before .before .before .before .before .before .before .before .before .before .before .before .replace-all .ensures .1) _ (c .before .before .before .before .before .before .before .before .k .given .1) (rw (c .before .l .given .1) at (c .before .before .before .before .before .replace-released .ensures))
+returns c =
+    let start = c .before .before .before .before .before .before .before .before .before .before .before .before .before .before .before .before in
+    let replace-all-told = c .before .before .before .before .before .before .before .before .before .before .before .before .replace-all .ensures in
+    let replace-released-told = c .before .before .before .before .before .replace-released .ensures in
+    entries-written (start .pre) (start .args .arities .now) _ (replace-all-told .0) (replace-all-told .1) _ (c .before .before .before .before .before .before .before .before .k .given .1) (rw (c .before .l .given .1) at replace-released-told)
 
 same-length-2 : tie.Need-same-length-2
 same-length-2 c = search needs
 
 returns-2 : tie.Need-returns-2
 unfolding further
-returns-2 c = entries-written (c .before .before .before .before .before .before .before .before .before .before .before .before .before .before .before .pre) (c .before .before .before .before .before .before .before .before .before .before .before .before .before .before .before .args .arities .now) _ (c .before .before .before .before .before .before .before .before .before .before .before .replace-all .ensures .0) (c .before .before .before .before .before .before .before .before .before .before .before .replace-all .ensures .1) _ (c .before .before .before .before .before .before .before .k .given .1) (rw (c .enum-told .given .1) at (c .before .before .before .before .replace-released .ensures))
+returns-2 c =
+    let start = c .before .before .before .before .before .before .before .before .before .before .before .before .before .before .before in
+    let replace-all-told = c .before .before .before .before .before .before .before .before .before .before .before .replace-all .ensures in
+    let replace-released-told = c .before .before .before .before .replace-released .ensures in
+    entries-written (start .pre) (start .args .arities .now) _ (replace-all-told .0) (replace-all-told .1) _ (c .before .before .before .before .before .before .before .k .given .1) (rw (c .enum-told .given .1) at replace-released-told)
 
 same-length-3 : tie.Need-same-length-3
 same-length-3 c = search needs
 
 returns-3 : tie.Need-returns-3
-returns-3 c = pending-full (c .before .before .before .before .before .before .before .before .pre) (c .before .before .before .before .before .before .before .before .args .arities .now) _ (c .before .before .before .before .replace-all .ensures .0) (c .before .before .before .before .replace-all .ensures .1) (c .enum-told2 .given .1)
+returns-3 c =
+    let start = c .before .before .before .before .before .before .before .before in
+    let replace-all-told = c .before .before .before .before .replace-all .ensures in
+    pending-full (start .pre) (start .args .arities .now) _ (replace-all-told .0) (replace-all-told .1) (c .enum-told2 .given .1)
 
 pub bind-pending-spec : {M : Type 1} → statement M
 bind-pending-spec =

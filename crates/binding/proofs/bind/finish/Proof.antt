@@ -27,7 +27,10 @@ add-finish-pile c =
     omega (arith, c .before .before .before .before .before .before .before .before .before .before .pre .size-small)
 
 finish-pile-requires : tie.Need-finish-pile-requires
-finish-pile-requires c κs = row-next (c .before .before .before .before .before .before .before .before .before .before .pre) (rw (c .before .before .k .given .1) at (c .before .before .before .before .before .before .bind-pending .ensures))
+finish-pile-requires c κs =
+    let start = c .before .before .before .before .before .before .before .before .before .before in
+    let bind-pending-told = c .before .before .before .before .before .before .bind-pending .ensures in
+    row-next (start .pre) (rw (c .before .before .k .given .1) at bind-pending-told)
 
 enum-told : tie.Need-enum-told
 enum-told c = search needs
@@ -36,14 +39,19 @@ same-length : tie.Need-same-length
 same-length c = search needs
 
 returns : tie.Need-returns
-returns c = all-finished (c .before .before .before .before .before .before .before .before .before .before .before .before .before .args .arities .now) (c .before .before .before .before .before .before .before .before .before .before .before .before .before .pre) (rw (c .before .before .before .before .before .k .given .1) at (c .before .before .before .before .before .before .before .before .before .bind-pending .ensures)) (c .before .before .finish-pile .ensures)
+returns c =
+    let start = c .before .before .before .before .before .before .before .before .before .before .before .before .before in
+    let bind-pending-told = c .before .before .before .before .before .before .before .before .before .bind-pending .ensures in
+    all-finished (start .args .arities .now) (start .pre) (rw (c .before .before .before .before .before .k .given .1) at bind-pending-told) (c .before .before .finish-pile .ensures)
 
 same-length-2 : tie.Need-same-length-2
 same-length-2 c = search needs
 
 returns-2 : tie.Need-returns-2
 unfolding of-sized
-returns-2 c = all-full (c .before .before .before .before .before .before .before .before .args .arities .now) (c .before .before .before .before .before .before .before .before .pre) (rw (c .enum-told .given .1) at (c .before .before .before .before .bind-pending .ensures))
+returns-2 c =
+    let start = c .before .before .before .before .before .before .before .before in
+    all-full (start .args .arities .now) (start .pre) (rw (c .enum-told .given .1) at (c .before .before .before .before .bind-pending .ensures))
 
 pub finish-spec : {M : Type 1} → statement M
 finish-spec =

@@ -33,7 +33,10 @@ add-body c =
     omega (arith, c .before .before .before .before .before .before .before .before .before .pre .size-small)
 
 seal-requires : tie.Need-seal-requires
-seal-requires c κs = seal-parts (c .before .before .before .before .before .before .before .before .before .before .args .pending) (c .before .before .before .before .before .before .before .before .before .before .args .pile) (c .before .before .before .before .before .before .before .before .before .before .pre) (rw (c .before .before .before .k .given .1) at (c .before .before .before .before .before .before .before .bind-last .ensures))
+seal-requires c κs =
+    let start = c .before .before .before .before .before .before .before .before .before .before in
+    let bind-last-told = c .before .before .before .before .before .before .before .bind-last .ensures in
+    seal-parts (start .args .pending) (start .args .pile) (start .pre) (rw (c .before .before .before .k .given .1) at bind-last-told)
 
 enum-told : tie.Need-enum-told
 enum-told c = search needs
@@ -43,14 +46,19 @@ same-length c = search needs
 
 returns : tie.Need-returns
 unfolding of-sized
-returns c = bindings-sealed (c .before .before .before .before .before .before .before .before .before .before .before .before .before .args .pending) (c .before .before .before .before .before .before .before .before .before .before .before .before .before .args .pile) (c .before .before .before .before .before .before .before .before .before .before .before .before .before .pre) (rw (c .before .before .before .before .before .before .k .given .1) at (c .before .before .before .before .before .before .before .before .before .before .bind-last .ensures)) (c .before .before .seal .ensures)
+returns c =
+    let start = c .before .before .before .before .before .before .before .before .before .before .before .before .before in
+    let bind-last-told = c .before .before .before .before .before .before .before .before .before .before .bind-last .ensures in
+    bindings-sealed (start .args .pending) (start .args .pile) (start .pre) (rw (c .before .before .before .before .before .before .k .given .1) at bind-last-told) (c .before .before .seal .ensures)
 
 same-length-2 : tie.Need-same-length-2
 same-length-2 c = search needs
 
 returns-2 : tie.Need-returns-2
 unfolding of-sized
-returns-2 c = bindings-full (c .before .before .before .before .before .before .before .args .pending) (c .before .before .before .before .before .before .before .args .pile) (c .before .before .before .before .before .before .before .pre) (rw (c .enum-told .given .1) at (c .before .before .before .before .bind-last .ensures))
+returns-2 c =
+    let start = c .before .before .before .before .before .before .before in
+    bindings-full (start .args .pending) (start .args .pile) (start .pre) (rw (c .enum-told .given .1) at (c .before .before .before .before .bind-last .ensures))
 
 pub finish-bindings-spec : {M : Type 1} → statement M
 finish-bindings-spec =

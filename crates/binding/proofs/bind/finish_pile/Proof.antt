@@ -23,7 +23,10 @@ enum-known-k : tie.Need-enum-known-k
 enum-known-k c = search needs
 
 finish-bindings-requires : tie.Need-finish-bindings-requires
-finish-bindings-requires c κs = pile-next (c .before .before .before .before .before .before .before .before .before .before .before .args .arities .now) (c .before .before .before .before .before .before .before .before .before .before .before .pre) (rw (c .before .before .k .given .1) at (c .before .before .before .before .before .before .replace-others .ensures))
+finish-bindings-requires c κs =
+    let start = c .before .before .before .before .before .before .before .before .before .before .before in
+    let replace-others-told = c .before .before .before .before .before .before .replace-others .ensures in
+    pile-next (start .args .arities .now) (start .pre) (rw (c .before .before .k .given .1) at replace-others-told)
 
 enum-told : tie.Need-enum-told
 enum-told c = search needs
@@ -32,14 +35,19 @@ same-length : tie.Need-same-length
 same-length c = search needs
 
 returns : tie.Need-returns
-returns c = pile-finished (c .before .before .before .before .before .before .before .before .before .before .before .before .before .before .args .arities .now) (c .before .before .before .before .before .before .before .before .before .before .before .before .before .before .pre) (rw (c .before .before .before .before .before .k .given .1) at (c .before .before .before .before .before .before .before .before .before .replace-others .ensures)) (c .before .before .finish-bindings .ensures)
+returns c =
+    let start = c .before .before .before .before .before .before .before .before .before .before .before .before .before .before in
+    let replace-others-told = c .before .before .before .before .before .before .before .before .before .replace-others .ensures in
+    pile-finished (start .args .arities .now) (start .pre) (rw (c .before .before .before .before .before .k .given .1) at replace-others-told) (c .before .before .finish-bindings .ensures)
 
 same-length-2 : tie.Need-same-length-2
 same-length-2 c = search needs
 
 returns-2 : tie.Need-returns-2
 unfolding of-sized
-returns-2 c = pile-full (c .before .before .before .before .before .before .before .before .before .args .arities .now) (c .before .before .before .before .before .before .before .before .before .pre) (rw (c .enum-told .given .1) at (c .before .before .before .before .replace-others .ensures))
+returns-2 c =
+    let start = c .before .before .before .before .before .before .before .before .before in
+    pile-full (start .args .arities .now) (start .pre) (rw (c .enum-told .given .1) at (c .before .before .before .before .replace-others .ensures))
 
 pub finish-pile-spec : {M : Type 1} → statement M
 finish-pile-spec =

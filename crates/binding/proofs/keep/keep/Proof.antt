@@ -34,7 +34,10 @@ add-body c =
     omega (arith, c .before .before .before .before .before .before .before .before .before .before .pre .size-small)
 
 seal-requires : tie.Need-seal-requires
-seal-requires c κs = keep-seal-parts (c .before .before .before .before .before .before .before .before .before .before .before .pre) (rw (c .before .before .before .before .k .given .1) at (c .before .before .before .before .before .before .before .before .keep-rest .ensures))
+seal-requires c κs =
+    let start = c .before .before .before .before .before .before .before .before .before .before .before in
+    let keep-rest-told = c .before .before .before .before .before .before .before .before .keep-rest .ensures in
+    keep-seal-parts (start .pre) (rw (c .before .before .before .before .k .given .1) at keep-rest-told)
 
 enum-told : tie.Need-enum-told
 enum-told c = search needs
@@ -44,7 +47,10 @@ same-length c = search needs
 
 returns : tie.Need-returns
 unfolding of-sized
-returns c = keep-sealed (c .before .before .before .before .before .before .before .before .before .before .before .before .before .before .pre) (rw (c .before .before .before .before .before .before .before .k .given .1) at (c .before .before .before .before .before .before .before .before .before .before .before .keep-rest .ensures)) (c .before .before .seal .ensures)
+returns c =
+    let start = c .before .before .before .before .before .before .before .before .before .before .before .before .before .before in
+    let keep-rest-told = c .before .before .before .before .before .before .before .before .before .before .before .keep-rest .ensures in
+    keep-sealed (start .pre) (rw (c .before .before .before .before .before .before .before .k .given .1) at keep-rest-told) (c .before .before .seal .ensures)
 
 same-length-2 : tie.Need-same-length-2
 same-length-2 c = search needs

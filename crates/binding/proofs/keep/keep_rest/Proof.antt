@@ -22,7 +22,9 @@ add-copy : tie.Need-add-copy
 add-copy c = search needs
 
 copy-requires-2 : tie.Need-copy-requires-2
-copy-requires-2 c κs = entry-parts (c .before .before .before .before .before .before .before .before .pre) (c .before .before .before .before .before .if1 .left) (c .before .before .before .copy .ensures)
+copy-requires-2 c κs =
+    let start = c .before .before .before .before .before .before .before .before in
+    entry-parts (start .pre) (c .before .before .before .before .before .if1 .left) (c .before .before .before .copy .ensures)
 
 add-copy-2 : tie.Need-add-copy-2
 add-copy-2 c = search needs
@@ -34,7 +36,11 @@ add-copy-4 : tie.Need-add-copy-4
 add-copy-4 c = search needs
 
 copy-requires-3 : tie.Need-copy-requires-3
-copy-requires-3 c κs = back-parts (c .before .before .before .before .before .before .before .before .before .before .before .before .pre) (c .before .before .before .before .before .before .before .before .before .if1 .left) (c .before .before .before .before .before .before .before .copy .ensures) (c .before .before .before .copy2 .ensures)
+copy-requires-3 c κs =
+    let start = c .before .before .before .before .before .before .before .before .before .before .before .before in
+    let if1 = c .before .before .before .before .before .before .before .before .before .if1 .left in
+    let copy-told = c .before .before .before .before .before .before .before .copy .ensures in
+    back-parts (start .pre) if1 copy-told (c .before .before .before .copy2 .ensures)
 
 add-t11 : tie.Need-add-t11
 add-t11 c = search needs
@@ -46,7 +52,12 @@ same-length : tie.Need-same-length
 same-length c = search needs
 
 returns-2 : tie.Need-returns-2
-returns-2 c = kept-written (c .before .before .before .before .before .before .before .before .before .before .before .before .before .before .before .pre) (c .before .before .before .before .before .before .before .before .before .before .before .before .if1 .left) (c .before .before .before .before .before .before .before .before .before .before .copy .ensures) (c .before .before .before .before .before .before .copy2 .ensures) (c .before .before .copy3 .ensures)
+returns-2 c =
+    let start = c .before .before .before .before .before .before .before .before .before .before .before .before .before .before .before in
+    let if1 = c .before .before .before .before .before .before .before .before .before .before .before .before .if1 .left in
+    let copy-told = c .before .before .before .before .before .before .before .before .before .before .copy .ensures in
+    let copy2-told = c .before .before .before .before .before .before .copy2 .ensures in
+    kept-written (start .pre) if1 copy-told copy2-told (c .before .before .copy3 .ensures)
 
 pub keep-rest-spec : {M : Type 1} → statement M
 keep-rest-spec =

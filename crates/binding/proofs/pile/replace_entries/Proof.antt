@@ -94,7 +94,10 @@ sub-replace c =
 
 replace-requires : tie.Need-replace-requires Inv-loop μ-loop
 unfolding seg
-replace-requires c κs = entry-parts (c .before .before .before .before .before .before .before .before .loop .inv .0) (c .before .before .before .before .before .before .before .loop-test .taken) (c .before .before .before .before .before .before .before .before .loop .inv .1) _ (c .before .before .before .before .end-of-term .ensures)
+replace-requires c κs =
+    let invariant = c .before .before .before .before .before .before .before .before .loop .inv in
+    let loop-test = c .before .before .before .before .before .before .before .loop-test .taken in
+    entry-parts (invariant .0) loop-test (invariant .1) _ (c .before .before .before .before .end-of-term .ensures)
 
 enum-known-k : tie.Need-enum-known-k Inv-loop μ-loop
 enum-known-k c = search needs
@@ -130,7 +133,9 @@ enum-told : tie.Need-enum-told Inv-loop μ-loop
 enum-told c = search needs
 
 same-length : tie.Need-same-length Inv-loop μ-loop
-same-length c = length-after (c .before .before .before .before .before .before .before .before .before .before .before .before .before .loop .inv .0) _ _ (c .before .before .before .before .replace .ensures .1)
+same-length c =
+    let invariant = c .before .before .before .before .before .before .before .before .before .before .before .before .before .loop .inv in
+    length-after (invariant .0) _ _ (c .before .before .before .before .replace .ensures .1)
 
 returns : tie.Need-returns Inv-loop μ-loop
 unfolding seg
@@ -154,7 +159,10 @@ loop-less-2 c =
 
 loop-again-2 : tie.Need-loop-again-2 Inv-loop μ-loop
 unfolding seg
-loop-again-2 c = (entry-skipped (c .before .before .before .before .before .before .before .loop .inv .0) (c .before .before .before .before .before .before .loop-test .taken) (c .before .before .before .before .before .before .before .loop .inv .1) _ (c .before .before .before .end-of-term .ensures) (sym (c .before .wanted .ensures) ∙ c .if1 .left), c .before .before .before .before .before .before .before .loop .inv .1)
+loop-again-2 c =
+    let invariant = c .before .before .before .before .before .before .before .loop .inv in
+    let loop-test = c .before .before .before .before .before .before .loop-test .taken in
+    (entry-skipped (invariant .0) loop-test (invariant .1) _ (c .before .before .before .end-of-term .ensures) (sym (c .before .wanted .ensures) ∙ c .if1 .left), invariant .1)
 
 same-length-2 : tie.Need-same-length-2 Inv-loop μ-loop
 same-length-2 c = long (c .before .loop .inv .0)

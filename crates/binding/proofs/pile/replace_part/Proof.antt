@@ -28,7 +28,9 @@ same-length : tie.Need-same-length
 same-length c = search needs
 
 returns : tie.Need-returns
-returns c = rw (c .enum-told .given .1) (absent-entries _ (c .before .before .before .before .before .before .before .before .pre .0) _ (c .before .before .before .is-in .ensures) (c .before .before .if1 .taken))
+returns c =
+    let start = c .before .before .before .before .before .before .before .before in
+    rw (c .enum-told .given .1) (absent-entries _ (start .pre .0) _ (c .before .before .before .is-in .ensures) (c .before .before .if1 .taken))
 
 enum-told-2 : tie.Need-enum-told-2
 enum-told-2 c = search needs
@@ -37,7 +39,9 @@ same-length-2 : tie.Need-same-length-2
 same-length-2 c = search needs
 
 returns-2 : tie.Need-returns-2
-returns-2 c = rw (c .before .enum-told2 .given .1) (absent-full _ (c .before .before .before .before .before .before .before .before .before .pre .0) _ (c .before .before .before .before .is-in .ensures) (c .before .before .before .if1 .taken) (c .if2 .taken))
+returns-2 c =
+    let start = c .before .before .before .before .before .before .before .before .before in
+    rw (c .before .enum-told2 .given .1) (absent-full _ (start .pre .0) _ (c .before .before .before .before .is-in .ensures) (c .before .before .before .if1 .taken) (c .if2 .taken))
 
 copy-requires : tie.Need-copy-requires
 copy-requires c κs = whole-parts (c .before .before .before .before .before .before .before .before .before .before .pre .0) (c .before .if2 .left)
@@ -46,7 +50,11 @@ same-length-3 : tie.Need-same-length-3
 same-length-3 c = search needs
 
 returns-3 : tie.Need-returns-3
-returns-3 c = rw (c .before .before .before .before .before .enum-told2 .given .1) (absent-others _ (c .before .before .before .before .before .before .before .before .before .before .before .before .before .pre .0) _ (c .before .before .before .before .before .before .before .before .is-in .ensures) (c .before .before .before .before .before .before .before .if1 .taken) (c .before .before .before .before .if2 .left) (c .before .before .copy .ensures))
+returns-3 c =
+    let start = c .before .before .before .before .before .before .before .before .before .before .before .before .before in
+    let is-in-told = c .before .before .before .before .before .before .before .before .is-in .ensures in
+    let if1 = c .before .before .before .before .before .before .before .if1 .taken in
+    rw (c .before .before .before .before .before .enum-told2 .given .1) (absent-others _ (start .pre .0) _ is-in-told if1 (c .before .before .before .before .if2 .left) (c .before .before .copy .ensures))
 
 replace-entries-requires : tie.Need-replace-entries-requires
 replace-entries-requires c κs = search needs

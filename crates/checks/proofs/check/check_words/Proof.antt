@@ -36,7 +36,10 @@ check-short-requires : tie.Need-check-short-requires Inv-loop μ-loop
 check-short-requires c κs = search needs
 
 returns : tie.Need-returns Inv-loop μ-loop
-returns c = c .check-short .ensures ∙ sym (c .before .before .before .before .before .loop .inv .0 ∙ checked-short _ _ _ (c .before .before .before .before .before .before .before .before .args .words .now) (c .before .before .before .before .before .loop .place) _ _ _ (c .before .if2 .taken))
+returns c =
+    let start = c .before .before .before .before .before .before .before .before in
+    let then = c .before .before .before .before .before in
+    c .check-short .ensures ∙ sym (then .loop .inv .0 ∙ checked-short _ _ _ (start .args .words .now) (then .loop .place) _ _ _ (c .before .if2 .taken))
 
 what-follows-requires : tie.Need-what-follows-requires Inv-loop μ-loop
 what-follows-requires c κs = search needs

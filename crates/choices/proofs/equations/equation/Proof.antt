@@ -13,20 +13,35 @@ enum-known-k : tie.Need-enum-known-k
 enum-known-k c = search needs
 
 add-side : tie.Need-add-side
-add-side c = let k = first-within (c .before .before .before .before .before .before .before .before .before .pre) _ (rw (c .before .before .k .given .1) at (c .before .before .before .before .before .before .side .ensures)) in omega (arith, c .before .before .before .before .before .before .before .before .before .pre .0 .to-within)
+add-side c =
+    let start = c .before .before .before .before .before .before .before .before .before in
+    let side-told = c .before .before .before .before .before .before .side .ensures in
+    let k = first-within (start .pre) _ (rw (c .before .before .k .given .1) at side-told) in
+    omega (arith, start .pre .0 .to-within)
 
 sub-side : tie.Need-sub-side
-sub-side c = let k = first-within (c .before .before .before .before .before .before .before .before .before .pre) _ (rw (c .before .before .k .given .1) at (c .before .before .before .before .before .before .side .ensures)) in omega (arith, c .before .before .before .before .before .before .before .before .before .pre .0 .to-within)
+sub-side c =
+    let start = c .before .before .before .before .before .before .before .before .before in
+    let side-told = c .before .before .before .before .before .before .side .ensures in
+    let k = first-within (start .pre) _ (rw (c .before .before .k .given .1) at side-told) in
+    omega (arith, start .pre .0 .to-within)
 
 side-requires-2 : tie.Need-side-requires-2
-side-requires-2 c κs = second-parts (c .before .before .before .before .before .before .before .before .before .pre) _ (rw (c .before .before .k .given .1) at (c .before .before .before .before .before .before .side .ensures))
+side-requires-2 c κs =
+    let start = c .before .before .before .before .before .before .before .before .before in
+    let side-told = c .before .before .before .before .before .before .side .ensures in
+    second-parts (start .pre) _ (rw (c .before .before .k .given .1) at side-told)
 
 enum-known-j : tie.Need-enum-known-j
 enum-known-j c = search needs
 
 add-t22 : tie.Need-add-t22
 unfolding further
-add-t22 c = let w = equation-written (c .before .before .before .before .before .before .before .before .before .before .before .before .before .before .before .pre) _ (rw (c .before .before .before .before .before .before .before .before .k .given .1) at (c .before .before .before .before .before .before .before .before .before .before .before .before .side .ensures)) (rw (c .before .j .given .1) at (c .before .before .before .before .before .side2 .ensures)) in omega (arith, c .before .before .before .before .before .before .before .before .before .before .before .before .before .before .before .pre .0 .to-within, done-fits w, done-length w)
+add-t22 c =
+    let start = c .before .before .before .before .before .before .before .before .before .before .before .before .before .before .before in
+    let side-told = c .before .before .before .before .before .before .before .before .before .before .before .before .side .ensures in
+    let w = equation-written (start .pre) _ (rw (c .before .before .before .before .before .before .before .before .k .given .1) at side-told) (rw (c .before .j .given .1) at (c .before .before .before .before .before .side2 .ensures)) in
+    omega (arith, start .pre .0 .to-within, done-fits w, done-length w)
 
 enum-told : tie.Need-enum-told
 enum-told c = search needs
@@ -39,14 +54,20 @@ same-length c = search needs
 
 returns : tie.Need-returns
 unfolding further
-returns c = equation-written (c .before .before .before .before .before .before .before .before .before .before .before .before .before .before .before .pre) _ (rw (c .before .before .before .before .before .before .before .before .k .given .1) at (c .before .before .before .before .before .before .before .before .before .before .before .before .side .ensures)) (rw (c .before .j .given .1) at (c .before .before .before .before .before .side2 .ensures))
+returns c =
+    let start = c .before .before .before .before .before .before .before .before .before .before .before .before .before .before .before in
+    let side-told = c .before .before .before .before .before .before .before .before .before .before .before .before .side .ensures in
+    equation-written (start .pre) _ (rw (c .before .before .before .before .before .before .before .before .k .given .1) at side-told) (rw (c .before .j .given .1) at (c .before .before .before .before .before .side2 .ensures))
 
 same-length-2 : tie.Need-same-length-2
 same-length-2 c = search needs
 
 returns-2 : tie.Need-returns-2
 unfolding further
-returns-2 c = equation-written (c .before .before .before .before .before .before .before .before .before .before .before .before .before .before .pre) _ (rw (c .before .before .before .before .before .before .before .k .given .1) at (c .before .before .before .before .before .before .before .before .before .before .before .side .ensures)) (rw (c .enum-told .given .1) at (c .before .before .before .before .side2 .ensures))
+returns-2 c =
+    let start = c .before .before .before .before .before .before .before .before .before .before .before .before .before .before in
+    let side-told = c .before .before .before .before .before .before .before .before .before .before .before .side .ensures in
+    equation-written (start .pre) _ (rw (c .before .before .before .before .before .before .before .k .given .1) at side-told) (rw (c .enum-told .given .1) at (c .before .before .before .before .side2 .ensures))
 
 same-length-3 : tie.Need-same-length-3
 same-length-3 c = search needs

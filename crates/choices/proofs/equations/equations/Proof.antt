@@ -16,20 +16,36 @@ add-equations-of : tie.Need-add-equations-of
 add-equations-of c = search needs
 
 add-equations-of-2 : tie.Need-add-equations-of-2
-add-equations-of-2 c = let k = first-within (c .before .before .before .before .before .before .before .before .before .pre) _ (rw (c .before .before .w .given .1) at (c .before .before .before .before .before .before .equations-of .ensures)) in omega (arith, c .before .before .before .before .before .before .before .before .before .pre .0 .to-within)
+add-equations-of-2 c =
+    let start = c .before .before .before .before .before .before .before .before .before in
+    let equations-of-told = c .before .before .before .before .before .before .equations-of .ensures in
+    let k = first-within (start .pre) _ (rw (c .before .before .w .given .1) at equations-of-told) in
+    omega (arith, start .pre .0 .to-within)
 
 sub-equations-of : tie.Need-sub-equations-of
-sub-equations-of c = let k = first-within (c .before .before .before .before .before .before .before .before .before .pre) _ (rw (c .before .before .w .given .1) at (c .before .before .before .before .before .before .equations-of .ensures)) in omega (arith, c .before .before .before .before .before .before .before .before .before .pre .0 .to-within)
+sub-equations-of c =
+    let start = c .before .before .before .before .before .before .before .before .before in
+    let equations-of-told = c .before .before .before .before .before .before .equations-of .ensures in
+    let k = first-within (start .pre) _ (rw (c .before .before .w .given .1) at equations-of-told) in
+    omega (arith, start .pre .0 .to-within)
 
 equations-of-requires-2 : tie.Need-equations-of-requires-2
-equations-of-requires-2 c κs = second-parts (c .before .before .before .before .before .before .before .before .before .pre) _ (rw (c .before .before .w .given .1) at (c .before .before .before .before .before .before .equations-of .ensures))
+equations-of-requires-2 c κs =
+    let start = c .before .before .before .before .before .before .before .before .before in
+    let equations-of-told = c .before .before .before .before .before .before .equations-of .ensures in
+    second-parts (start .pre) _ (rw (c .before .before .w .given .1) at equations-of-told)
 
 enum-known-v : tie.Need-enum-known-v
 enum-known-v c = search needs
 
 add-t26 : tie.Need-add-t26
 unfolding further
-add-t26 c = let w = equations-written (c .before .before .before .before .before .before .before .before .before .before .before .before .before .before .before .pre) _ (rw (c .before .before .before .before .before .before .before .before .w .given .1) at (c .before .before .before .before .before .before .before .before .before .before .before .before .equations-of .ensures)) (rw (c .before .v .given .1) at (c .before .before .before .before .before .equations-of2 .ensures)) in omega (arith, c .before .before .before .before .before .before .before .before .before .before .before .before .before .before .before .pre .0 .to-within, done-fits w, done-length w)
+add-t26 c =
+    let start = c .before .before .before .before .before .before .before .before .before .before .before .before .before .before .before in
+    let equations-of-told = c .before .before .before .before .before .before .before .before .before .before .before .before .equations-of .ensures in
+    let equations-of2-told = c .before .before .before .before .before .equations-of2 .ensures in
+    let w = equations-written (start .pre) _ (rw (c .before .before .before .before .before .before .before .before .w .given .1) at equations-of-told) (rw (c .before .v .given .1) at equations-of2-told) in
+    omega (arith, start .pre .0 .to-within, done-fits w, done-length w)
 
 enum-told : tie.Need-enum-told
 enum-told c = search needs
@@ -42,14 +58,21 @@ same-length c = search needs
 
 returns : tie.Need-returns
 unfolding further
-returns c = equations-written (c .before .before .before .before .before .before .before .before .before .before .before .before .before .before .before .pre) _ (rw (c .before .before .before .before .before .before .before .before .w .given .1) at (c .before .before .before .before .before .before .before .before .before .before .before .before .equations-of .ensures)) (rw (c .before .v .given .1) at (c .before .before .before .before .before .equations-of2 .ensures))
+returns c =
+    let start = c .before .before .before .before .before .before .before .before .before .before .before .before .before .before .before in
+    let equations-of-told = c .before .before .before .before .before .before .before .before .before .before .before .before .equations-of .ensures in
+    let equations-of2-told = c .before .before .before .before .before .equations-of2 .ensures in
+    equations-written (start .pre) _ (rw (c .before .before .before .before .before .before .before .before .w .given .1) at equations-of-told) (rw (c .before .v .given .1) at equations-of2-told)
 
 same-length-2 : tie.Need-same-length-2
 same-length-2 c = search needs
 
 returns-2 : tie.Need-returns-2
 unfolding further
-returns-2 c = equations-written (c .before .before .before .before .before .before .before .before .before .before .before .before .before .before .pre) _ (rw (c .before .before .before .before .before .before .before .w .given .1) at (c .before .before .before .before .before .before .before .before .before .before .before .equations-of .ensures)) (rw (c .enum-told .given .1) at (c .before .before .before .before .equations-of2 .ensures))
+returns-2 c =
+    let start = c .before .before .before .before .before .before .before .before .before .before .before .before .before .before in
+    let equations-of-told = c .before .before .before .before .before .before .before .before .before .before .before .equations-of .ensures in
+    equations-written (start .pre) _ (rw (c .before .before .before .before .before .before .before .w .given .1) at equations-of-told) (rw (c .enum-told .given .1) at (c .before .before .before .before .equations-of2 .ensures))
 
 same-length-3 : tie.Need-same-length-3
 same-length-3 c = search needs

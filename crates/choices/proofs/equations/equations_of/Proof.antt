@@ -47,7 +47,13 @@ enum-known-k : tie.Need-enum-known-k Inv-loop μ-loop
 enum-known-k c = search needs
 
 add-written : tie.Need-add-written Inv-loop μ-loop
-add-written c = let N = numbers (pair-met (c .before .before .before .before .before .before .before .before .before .before .before .loop .inv) (c .before .before .before .before .before .before .before .before .before .before .loop-test .taken) _ (c .before .before .before .before .before .before .before .before .wide .ensures) (c .before .before .before .before .before .before .before .if1 .taken) (c .before .before .before .before .before .pair .ensures) _ (c .before .k .given .1)) in omega arith
+add-written c =
+    let invariant = c .before .before .before .before .before .before .before .before .before .before .before .loop .inv in
+    let loop-test = c .before .before .before .before .before .before .before .before .before .before .loop-test .taken in
+    let wide-told = c .before .before .before .before .before .before .before .before .wide .ensures in
+    let if1 = c .before .before .before .before .before .before .before .if1 .taken in
+    let N = numbers (pair-met invariant loop-test _ wide-told if1 (c .before .before .before .before .before .pair .ensures) _ (c .before .k .given .1)) in
+    omega arith
 
 add-i : tie.Need-add-i Inv-loop μ-loop
 add-i c = let N = numbers (c .before .before .before .before .before .before .before .before .before .before .before .loop .inv) in omega arith
@@ -56,7 +62,12 @@ loop-less : tie.Need-loop-less Inv-loop μ-loop
 loop-less c = let N = numbers (c .before .before .before .before .before .before .before .before .before .before .before .loop .inv) in omega arith
 
 loop-again : tie.Need-loop-again Inv-loop μ-loop
-loop-again c = pair-met (c .before .before .before .before .before .before .before .before .before .before .before .loop .inv) (c .before .before .before .before .before .before .before .before .before .before .loop-test .taken) _ (c .before .before .before .before .before .before .before .before .wide .ensures) (c .before .before .before .before .before .before .before .if1 .taken) (c .before .before .before .before .before .pair .ensures) _ (c .before .k .given .1)
+loop-again c =
+    let invariant = c .before .before .before .before .before .before .before .before .before .before .before .loop .inv in
+    let loop-test = c .before .before .before .before .before .before .before .before .before .before .loop-test .taken in
+    let wide-told = c .before .before .before .before .before .before .before .before .wide .ensures in
+    let if1 = c .before .before .before .before .before .before .before .if1 .taken in
+    pair-met invariant loop-test _ wide-told if1 (c .before .before .before .before .before .pair .ensures) _ (c .before .k .given .1)
 
 enum-told : tie.Need-enum-told Inv-loop μ-loop
 enum-told c = search needs
@@ -65,7 +76,12 @@ same-length : tie.Need-same-length Inv-loop μ-loop
 same-length c = wrote-length (c .before .before .before .before .pair .ensures) ∙ numbers (c .before .before .before .before .before .before .before .before .before .before .loop .inv) .long
 
 returns : tie.Need-returns Inv-loop μ-loop
-returns c = pair-full (c .before .before .before .before .before .before .before .before .before .before .loop .inv) (c .before .before .before .before .before .before .before .before .before .loop-test .taken) _ (c .before .before .before .before .before .before .before .wide .ensures) (c .before .before .before .before .before .before .if1 .taken) (c .before .before .before .before .pair .ensures) (c .enum-told .given .1)
+returns c =
+    let invariant = c .before .before .before .before .before .before .before .before .before .before .loop .inv in
+    let loop-test = c .before .before .before .before .before .before .before .before .before .loop-test .taken in
+    let wide-told = c .before .before .before .before .before .before .before .wide .ensures in
+    let if1 = c .before .before .before .before .before .before .if1 .taken in
+    pair-full invariant loop-test _ wide-told if1 (c .before .before .before .before .pair .ensures) (c .enum-told .given .1)
 
 add-i-2 : tie.Need-add-i-2 Inv-loop μ-loop
 add-i-2 c = let N = numbers (c .before .before .before .before .loop .inv) in omega arith

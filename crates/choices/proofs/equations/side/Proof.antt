@@ -40,7 +40,11 @@ same-length : tie.Need-same-length
 same-length c = search needs
 
 returns : tie.Need-returns
-returns c = side-written (c .before .before .before .before .before .before .before .before .before .pre) (c .before .before .before .before .before .before .wide .ensures) (c .before .before .before .before .wide2 .ensures) _ (c .before .before .replace .ensures .0) (c .before .before .replace .ensures .1)
+returns c =
+    let start = c .before .before .before .before .before .before .before .before .before in
+    let wide-told = c .before .before .before .before .before .before .wide .ensures in
+    let replace-told = c .before .before .replace .ensures in
+    side-written (start .pre) wide-told (c .before .before .before .before .wide2 .ensures) _ (replace-told .0) (replace-told .1)
 
 pub side-spec : {M : Type 1} → statement M
 side-spec =

@@ -13,16 +13,23 @@ same-length : tie.Need-same-length
 same-length c = search needs
 
 returns : tie.Need-returns
-returns c = advanced-second (c .before .before .before .before .before .before .pre .0) (c .before .before .before .before .before .before .pre .1) (rw (c .if1 .taken) at (c .before .before .before .advance-of .ensures))
+returns c =
+    let start = c .before .before .before .before .before .before in
+    advanced-second (start .pre .0) (start .pre .1) (rw (c .if1 .taken) at (c .before .before .before .advance-of .ensures))
 
 advance-of-requires-2 : tie.Need-advance-of-requires-2
-advance-of-requires-2 c κs = first-parts (c .before .before .before .before .before .before .before .pre .0) (c .before .before .before .before .before .before .before .pre .1) (rw (c .before .if1 .left) at (c .before .before .before .before .advance-of .ensures))
+advance-of-requires-2 c κs =
+    let start = c .before .before .before .before .before .before .before in
+    first-parts (start .pre .0) (start .pre .1) (rw (c .before .if1 .left) at (c .before .before .before .before .advance-of .ensures))
 
 same-length-2 : tie.Need-same-length-2
 same-length-2 c = search needs
 
 returns-2 : tie.Need-returns-2
-returns-2 c = advanced-first (c .before .before .before .before .before .before .before .before .before .before .pre .0) (c .before .before .before .before .before .before .before .before .before .before .pre .1) (rw (c .before .before .before .before .if1 .left) at (c .before .before .before .before .before .before .before .advance-of .ensures)) (c .before .before .advance-of2 .ensures)
+returns-2 c =
+    let start = c .before .before .before .before .before .before .before .before .before .before in
+    let advance-of-told = c .before .before .before .before .before .before .before .advance-of .ensures in
+    advanced-first (start .pre .0) (start .pre .1) (rw (c .before .before .before .before .if1 .left) at advance-of-told) (c .before .before .advance-of2 .ensures)
 
 pub advance-spec : {M : Type 1} → statement M
 advance-spec =

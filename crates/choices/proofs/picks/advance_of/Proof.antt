@@ -30,10 +30,18 @@ wide-requires : tie.Need-wide-requires Inv-loop μ-loop
 wide-requires c κs = let N = counts (c .before .before .loop .inv) in omega arith
 
 add-pick : tie.Need-add-pick Inv-loop μ-loop
-add-pick c = let N = counts (c .before .before .before .loop .inv) in let b = digit-below (c .before .before .before .loop .inv) (c .before .before .loop-test .taken) _ (c .wide .ensures) in omega arith
+add-pick c =
+    let invariant = c .before .before .before .loop .inv in
+    let N = counts invariant in
+    let b = digit-below invariant (c .before .before .loop-test .taken) _ (c .wide .ensures) in
+    omega arith
 
 cast-room : tie.Need-cast-room Inv-loop μ-loop
-cast-room c = let N = counts (c .before .before .before .before .loop .inv) in let b = digit-below (c .before .before .before .before .loop .inv) (c .before .before .before .loop-test .taken) _ (c .before .wide .ensures) in omega arith
+cast-room c =
+    let invariant = c .before .before .before .before .loop .inv in
+    let N = counts invariant in
+    let b = digit-below invariant (c .before .before .before .loop-test .taken) _ (c .before .wide .ensures) in
+    omega arith
 
 add-room : tie.Need-add-room Inv-loop μ-loop
 add-room c = let N = counts (c .before .before .before .before .loop .inv) in omega arith

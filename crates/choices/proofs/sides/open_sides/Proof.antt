@@ -17,28 +17,67 @@ note-members-requires : tie.Need-note-members-requires
 note-members-requires c κs = first-parts (c .before .before .before .pre .open-there)
 
 note-members-requires-2 : tie.Need-note-members-requires-2
-note-members-requires-2 c κs = second-parts (c .before .before .before .before .before .before .before .pre .open-there) _ (c .before .before .before .note-members .ensures .0) (c .before .before .before .note-members .ensures .1)
+note-members-requires-2 c κs =
+    let start = c .before .before .before .before .before .before .before in
+    let note-members-told = c .before .before .before .note-members .ensures in
+    second-parts (start .pre .open-there) _ (note-members-told .0) (note-members-told .1)
 
 add-wide : tie.Need-add-wide
-add-wide c = let O = c .before .before .before .before .before .before .before .before .before .before .pre .open-there in let L = all-long (c .before .before .before .before .before .before .before .before .before .before .pre .open-there) _ (c .before .before .before .before .before .before .note-members .ensures .0) (c .before .before .before .before .before .before .note-members .ensures .1) _ (c .before .before .note-members2 .ensures .0) (c .before .before .note-members2 .ensures .1) in omega (arith, L .0, L .1, L .2, c .before .before .before .before .before .before .before .before .before .before .pre .open-there .space, c .before .before .before .before .before .before .before .before .before .before .pre .open-there .small)
+add-wide c =
+    let start = c .before .before .before .before .before .before .before .before .before .before in
+    let note-members-told = c .before .before .before .before .before .before .note-members .ensures in
+    let note-members2-told = c .before .before .note-members2 .ensures in
+    let O = start .pre .open-there in
+    let L = all-long (start .pre .open-there) _ (note-members-told .0) (note-members-told .1) _ (note-members2-told .0) (note-members2-told .1) in
+    omega (arith, L .0, L .1, L .2, start .pre .open-there .space, start .pre .open-there .small)
 
 mul-wide : tie.Need-mul-wide
-mul-wide c = let O = c .before .before .before .before .before .before .before .before .before .before .pre .open-there in let L = all-long (c .before .before .before .before .before .before .before .before .before .before .pre .open-there) _ (c .before .before .before .before .before .before .note-members .ensures .0) (c .before .before .before .before .before .before .note-members .ensures .1) _ (c .before .before .note-members2 .ensures .0) (c .before .before .note-members2 .ensures .1) in omega (arith, L .0, L .1, L .2, c .before .before .before .before .before .before .before .before .before .before .pre .open-there .space, c .before .before .before .before .before .before .before .before .before .before .pre .open-there .small)
+mul-wide c =
+    let start = c .before .before .before .before .before .before .before .before .before .before in
+    let note-members-told = c .before .before .before .before .before .before .note-members .ensures in
+    let note-members2-told = c .before .before .note-members2 .ensures in
+    let O = start .pre .open-there in
+    let L = all-long (start .pre .open-there) _ (note-members-told .0) (note-members-told .1) _ (note-members2-told .0) (note-members2-told .1) in
+    omega (arith, L .0, L .1, L .2, start .pre .open-there .space, start .pre .open-there .small)
 
 slice-read-wide : tie.Need-slice-read-wide
-slice-read-wide c = let O = c .before .before .before .before .before .before .before .before .before .before .before .pre .open-there in let L = all-long (c .before .before .before .before .before .before .before .before .before .before .before .pre .open-there) _ (c .before .before .before .before .before .before .before .note-members .ensures .0) (c .before .before .before .before .before .before .before .note-members .ensures .1) _ (c .before .before .before .note-members2 .ensures .0) (c .before .before .before .note-members2 .ensures .1) in omega (arith, L .0, L .1, L .2, c .before .before .before .before .before .before .before .before .before .before .before .pre .open-there .space, c .before .before .before .before .before .before .before .before .before .before .before .pre .open-there .small)
+slice-read-wide c =
+    let start = c .before .before .before .before .before .before .before .before .before .before .before in
+    let note-members-told = c .before .before .before .before .before .before .before .note-members .ensures in
+    let note-members2-told = c .before .before .before .note-members2 .ensures in
+    let O = start .pre .open-there in
+    let L = all-long (start .pre .open-there) _ (note-members-told .0) (note-members-told .1) _ (note-members2-told .0) (note-members2-told .1) in
+    omega (arith, L .0, L .1, L .2, start .pre .open-there .space, start .pre .open-there .small)
 
 wide-requires : tie.Need-wide-requires
 wide-requires c κs = search needs
 
 add-wide-2 : tie.Need-add-wide-2
-add-wide-2 c = let O = c .before .before .before .before .before .before .before .before .before .before .before .before .pre .open-there in let L = all-long (c .before .before .before .before .before .before .before .before .before .before .before .before .pre .open-there) _ (c .before .before .before .before .before .before .before .before .note-members .ensures .0) (c .before .before .before .before .before .before .before .before .note-members .ensures .1) _ (c .before .before .before .before .note-members2 .ensures .0) (c .before .before .before .before .note-members2 .ensures .1) in omega (arith, L .0, L .1, L .2, c .before .before .before .before .before .before .before .before .before .before .before .before .pre .open-there .space, c .before .before .before .before .before .before .before .before .before .before .before .before .pre .open-there .small)
+add-wide-2 c =
+    let start = c .before .before .before .before .before .before .before .before .before .before .before .before in
+    let note-members-told = c .before .before .before .before .before .before .before .before .note-members .ensures in
+    let note-members2-told = c .before .before .before .before .note-members2 .ensures in
+    let O = start .pre .open-there in
+    let L = all-long (start .pre .open-there) _ (note-members-told .0) (note-members-told .1) _ (note-members2-told .0) (note-members2-told .1) in
+    omega (arith, L .0, L .1, L .2, start .pre .open-there .space, start .pre .open-there .small)
 
 mul-wide-2 : tie.Need-mul-wide-2
-mul-wide-2 c = let O = c .before .before .before .before .before .before .before .before .before .before .before .before .pre .open-there in let L = all-long (c .before .before .before .before .before .before .before .before .before .before .before .before .pre .open-there) _ (c .before .before .before .before .before .before .before .before .note-members .ensures .0) (c .before .before .before .before .before .before .before .before .note-members .ensures .1) _ (c .before .before .before .before .note-members2 .ensures .0) (c .before .before .before .before .note-members2 .ensures .1) in omega (arith, L .0, L .1, L .2, c .before .before .before .before .before .before .before .before .before .before .before .before .pre .open-there .space, c .before .before .before .before .before .before .before .before .before .before .before .before .pre .open-there .small)
+mul-wide-2 c =
+    let start = c .before .before .before .before .before .before .before .before .before .before .before .before in
+    let note-members-told = c .before .before .before .before .before .before .before .before .note-members .ensures in
+    let note-members2-told = c .before .before .before .before .note-members2 .ensures in
+    let O = start .pre .open-there in
+    let L = all-long (start .pre .open-there) _ (note-members-told .0) (note-members-told .1) _ (note-members2-told .0) (note-members2-told .1) in
+    omega (arith, L .0, L .1, L .2, start .pre .open-there .space, start .pre .open-there .small)
 
 slice-read-wide-2 : tie.Need-slice-read-wide-2
-slice-read-wide-2 c = let O = c .before .before .before .before .before .before .before .before .before .before .before .before .before .pre .open-there in let L = all-long (c .before .before .before .before .before .before .before .before .before .before .before .before .before .pre .open-there) _ (c .before .before .before .before .before .before .before .before .before .note-members .ensures .0) (c .before .before .before .before .before .before .before .before .before .note-members .ensures .1) _ (c .before .before .before .before .before .note-members2 .ensures .0) (c .before .before .before .before .before .note-members2 .ensures .1) in omega (arith, L .0, L .1, L .2, c .before .before .before .before .before .before .before .before .before .before .before .before .before .pre .open-there .space, c .before .before .before .before .before .before .before .before .before .before .before .before .before .pre .open-there .small)
+slice-read-wide-2 c =
+    let start = c .before .before .before .before .before .before .before .before .before .before .before .before .before in
+    let note-members-told = c .before .before .before .before .before .before .before .before .before .note-members .ensures in
+    let note-members2-told = c .before .before .before .before .before .note-members2 .ensures in
+    let O = start .pre .open-there in
+    let L = all-long (start .pre .open-there) _ (note-members-told .0) (note-members-told .1) _ (note-members2-told .0) (note-members2-told .1) in
+    omega (arith, L .0, L .1, L .2, start .pre .open-there .space, start .pre .open-there .small)
 
 wide-requires-2 : tie.Need-wide-requires-2
 wide-requires-2 c κs = search needs
@@ -47,7 +86,10 @@ same-length : tie.Need-same-length
 same-length c = search needs
 
 returns : tie.Need-returns
-returns c = record { opened = λ k t u O. sides-open O _ (c .before .before .before .before .before .before .before .before .before .before .note-members .ensures .0) (c .before .before .before .before .before .before .before .before .before .before .note-members .ensures .1) _ (c .before .before .before .before .before .before .note-members2 .ensures .0) (c .before .before .before .before .before .before .note-members2 .ensures .1) (c .before .before .wide .ensures) (c .wide2 .ensures) }
+returns c =
+    let note-members-told = c .before .before .before .before .before .before .before .before .before .before .note-members .ensures in
+    let note-members2-told = c .before .before .before .before .before .before .note-members2 .ensures in
+    record { opened = λ k t u O. sides-open O _ (note-members-told .0) (note-members-told .1) _ (note-members2-told .0) (note-members2-told .1) (c .before .before .wide .ensures) (c .wide2 .ensures) }
 
 pub open-sides-spec : {M : Type 1} → statement M
 open-sides-spec =

@@ -30,7 +30,10 @@ part-subject-of-end : tie.Need-part-subject-of-end
 part-subject-of-end c = let S = c .before .before .before .before .before .before .pre .here in omega (arith, first-within S, S .ready .scratch-rows, S .ready .small)
 
 subject-of-requires : tie.Need-subject-of-requires
-subject-of-requires c κs = let S = c .before .before .before .before .before .before .before .pre .here in (right-within S, omega (arith, right-within S, first-within S, S .ready .scratch-rows, S .ready .small))
+subject-of-requires c κs =
+    let start = c .before .before .before .before .before .before .before in
+    let S = start .pre .here in
+    (right-within S, omega (arith, right-within S, first-within S, S .ready .scratch-rows, S .ready .small))
 
 add-to : tie.Need-add-to
 add-to c = search needs
@@ -48,7 +51,9 @@ add-aside-2 : tie.Need-add-aside-2
 add-aside-2 c = search needs
 
 take-step-requires : tie.Need-take-step-requires
-take-step-requires c κs = step-asked (c .before .before .before .before .before .before .before .before .before .pre .here) (omega (arith, c .before .before .before .before .before .if2 .left)) (c .before .subject-of .ensures)
+take-step-requires c κs =
+    let start = c .before .before .before .before .before .before .before .before .before in
+    step-asked (start .pre .here) (omega (arith, c .before .before .before .before .before .if2 .left)) (c .before .subject-of .ensures)
 
 told-of-requires : tie.Need-told-of-requires
 told-of-requires c κs = search needs
@@ -57,7 +62,11 @@ same-length : tie.Need-same-length
 same-length c = search needs
 
 returns-3 : tie.Need-returns-3
-returns-3 c = λ st e es S. step-told S (omega (arith, c .before .before .before .before .before .before .before .before .before .before .if1 .left)) (omega (arith, c .before .before .before .before .before .before .before .before .before .if2 .left)) (c .before .before .before .before .before .subject-of .ensures) (c .before .before .before .take-step .ensures) (c .told-of .ensures)
+returns-3 c =
+    let if1 = c .before .before .before .before .before .before .before .before .before .before .if1 .left in
+    let if2 = c .before .before .before .before .before .before .before .before .before .if2 .left in
+    let subject-of-told = c .before .before .before .before .before .subject-of .ensures in
+    λ st e es S. step-told S (omega (arith, if1)) (omega (arith, if2)) subject-of-told (c .before .before .before .take-step .ensures) (c .told-of .ensures)
 
 pub step-on-spec : {M : Type 1} → statement M
 step-on-spec =

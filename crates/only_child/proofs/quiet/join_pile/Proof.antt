@@ -33,7 +33,9 @@ add-aside-2 : tie.Need-add-aside-2
 add-aside-2 c = search needs
 
 join-requires : tie.Need-join-requires
-join-requires c κs = join-asked (c .before .before .before .before .before .before .before .before .pre .1) (omega (arith, c .before .before .before .before .if1 .left)) (omega (arith, c .before .before .if3 .left)) (c .before .rest-of .ensures)
+join-requires c κs =
+    let start = c .before .before .before .before .before .before .before .before in
+    join-asked (start .pre .1) (omega (arith, c .before .before .before .before .if1 .left)) (omega (arith, c .before .before .if3 .left)) (c .before .rest-of .ensures)
 
 told-of-requires : tie.Need-told-of-requires
 told-of-requires c κs = search needs
@@ -42,7 +44,11 @@ same-length : tie.Need-same-length
 same-length c = search needs
 
 returns-4 : tie.Need-returns-4
-returns-4 c = λ st Q. join-told Q (omega (arith, c .before .before .before .before .before .before .before .before .if1 .left)) (omega (arith, c .before .before .before .before .before .before .before .if2 .left)) (omega (arith, c .before .before .before .before .before .before .if3 .left)) (c .before .before .before .before .before .rest-of .ensures) (c .before .before .before .join .ensures) (c .told-of .ensures)
+returns-4 c =
+    let if1 = c .before .before .before .before .before .before .before .before .if1 .left in
+    let if2 = c .before .before .before .before .before .before .before .if2 .left in
+    let if3 = c .before .before .before .before .before .before .if3 .left in
+    λ st Q. join-told Q (omega (arith, if1)) (omega (arith, if2)) (omega (arith, if3)) (c .before .before .before .before .before .rest-of .ensures) (c .before .before .before .join .ensures) (c .told-of .ensures)
 
 pub join-pile-spec : {M : Type 1} → statement M
 join-pile-spec =

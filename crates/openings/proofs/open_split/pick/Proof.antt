@@ -30,22 +30,49 @@ show-sides-requires : tie.Need-show-sides-requires
 show-sides-requires c κs = let S = c .before .before .before .before .before .before .before .pre .here in number-parts S (c .before .before .before .open-sides .ensures .opened _ _ _ (open-there S))
 
 picks-of-t-requires : tie.Need-picks-of-t-requires
-picks-of-t-requires c κs = let S = c .before .before .before .before .before .before .before .before .before .before .pre .here in let few = members-few S (c .before .before .before .before .before .before .open-sides .ensures .opened _ _ _ (open-there S)) in omega (arith, S .ready .lent-small)
+picks-of-t-requires c κs =
+    let start = c .before .before .before .before .before .before .before .before .before .before in
+    let open-sides-told = c .before .before .before .before .before .before .open-sides .ensures in
+    let S = start .pre .here in
+    let few = members-few S (open-sides-told .opened _ _ _ (open-there S)) in
+    omega (arith, S .ready .lent-small)
 
 picks-of-u-requires : tie.Need-picks-of-u-requires
-picks-of-u-requires c κs = let S = c .before .before .before .before .before .before .before .before .before .before .before .pre .here in let few = members-few S (c .before .before .before .before .before .before .before .open-sides .ensures .opened _ _ _ (open-there S)) in omega (arith, S .ready .lent-small)
+picks-of-u-requires c κs =
+    let start = c .before .before .before .before .before .before .before .before .before .before .before in
+    let open-sides-told = c .before .before .before .before .before .before .before .open-sides .ensures in
+    let S = start .pre .here in
+    let few = members-few S (open-sides-told .opened _ _ _ (open-there S)) in
+    omega (arith, S .ready .lent-small)
 
 digits-requires : tie.Need-digits-requires
-digits-requires c κs = let S = c .before .before .before .before .before .before .before .before .before .before .before .before .before .pre .here in digit-parts S (c .before .before .before .before .before .before .before .before .before .open-sides .ensures .opened _ _ _ (open-there S)) (c .before .before .before .before .before .show-sides .ensures) (c .before .before .picks-of-t .ensures) (c .before .picks-of-u .ensures)
+digits-requires c κs =
+    let start = c .before .before .before .before .before .before .before .before .before .before .before .before .before in
+    let open-sides-told = c .before .before .before .before .before .before .before .before .before .open-sides .ensures in
+    let show-sides-told = c .before .before .before .before .before .show-sides .ensures in
+    let S = start .pre .here in
+    digit-parts S (open-sides-told .opened _ _ _ (open-there S)) show-sides-told (c .before .before .picks-of-t .ensures) (c .before .picks-of-u .ensures)
 
 same-length : tie.Need-same-length
 same-length c = search needs
 
 returns : tie.Need-returns
-returns c = λ st e es S. told-past S (c .before .before .before .before .before .before .before .before .before .before .before .before .before .open-sides .ensures .opened _ _ _ (open-there S)) (c .before .before .before .before .before .before .before .before .before .show-sides .ensures) (c .before .before .before .before .before .before .picks-of-t .ensures) (c .before .before .before .before .before .picks-of-u .ensures) (c .before .before .before .digits .ensures) (c .if1 .taken)
+returns c =
+    let open-sides-told = c .before .before .before .before .before .before .before .before .before .before .before .before .before .open-sides .ensures in
+    let show-sides-told = c .before .before .before .before .before .before .before .before .before .show-sides .ensures in
+    let picks-of-t-told = c .before .before .before .before .before .before .picks-of-t .ensures in
+    let picks-of-u-told = c .before .before .before .before .before .picks-of-u .ensures in
+    λ st e es S. told-past S (open-sides-told .opened _ _ _ (open-there S)) show-sides-told picks-of-t-told picks-of-u-told (c .before .before .before .digits .ensures) (c .if1 .taken)
 
 pick-from-requires : tie.Need-pick-from-requires
-pick-from-requires c κs = let S = c .before .before .before .before .before .before .before .before .before .before .before .before .before .before .before .before .before .before .pre .here in record { p = _; here = here S (c .before .before .before .before .before .before .before .before .before .before .before .before .before .before .open-sides .ensures .opened _ _ _ (open-there S)) (c .before .before .before .before .before .before .before .before .before .before .show-sides .ensures) (c .before .before .before .before .before .before .before .picks-of-t .ensures) (c .before .before .before .before .before .before .picks-of-u .ensures) (c .before .before .before .before .digits .ensures) }
+pick-from-requires c κs =
+    let start = c .before .before .before .before .before .before .before .before .before .before .before .before .before .before .before .before .before .before in
+    let open-sides-told = c .before .before .before .before .before .before .before .before .before .before .before .before .before .before .open-sides .ensures in
+    let show-sides-told = c .before .before .before .before .before .before .before .before .before .before .show-sides .ensures in
+    let picks-of-t-told = c .before .before .before .before .before .before .before .picks-of-t .ensures in
+    let picks-of-u-told = c .before .before .before .before .before .before .picks-of-u .ensures in
+    let S = start .pre .here in
+    record { p = _; here = here S (open-sides-told .opened _ _ _ (open-there S)) show-sides-told picks-of-t-told picks-of-u-told (c .before .before .before .before .digits .ensures) }
 
 same-length-2 : tie.Need-same-length-2
 same-length-2 c = search needs

@@ -50,13 +50,21 @@ loop-holds : tie.Need-loop-holds Inv-loop μ-loop
 loop-holds c = λ l p P. P
 
 split-requires : tie.Need-split-requires Inv-loop μ-loop
-split-requires c κs = child-parts (c .before .before .loop .inv _ _ (first-passed (c .before .before .before .before .before .before .before .before .before .before .pre .here) (c .before .before .before .before .before .before .advance .ensures) (not-false _ (c .before .before .before .if1 .left)))) (c .before .loop-test .taken)
+split-requires c κs =
+    let start = c .before .before .before .before .before .before .before .before .before .before in
+    let advance-told = c .before .before .before .before .before .before .advance .ensures in
+    child-parts (c .before .before .loop .inv _ _ (first-passed (start .pre .here) advance-told (not-false _ (c .before .before .before .if1 .left)))) (c .before .loop-test .taken)
 
 enum-told : tie.Need-enum-told Inv-loop μ-loop
 enum-told c = search needs
 
 add-k : tie.Need-add-k Inv-loop μ-loop
-add-k c = let t = c .before .before .before .before .before .before .loop-test .taken in let m = c .before .before .before .before .before .before .before .before .before .before .before .before .before .before .before .pre .here .here .most-small in omega arith
+add-k c =
+    let start = c .before .before .before .before .before .before .before .before .before .before .before .before .before .before .before in
+    let loop-test = c .before .before .before .before .before .before .loop-test .taken in
+    let t = loop-test in
+    let m = start .pre .here .here .most-small in
+    omega arith
 
 advance-requires-2 : tie.Need-advance-requires-2 Inv-loop μ-loop
 advance-requires-2 c κs =
@@ -73,7 +81,9 @@ returns-2 c = λ p E.
     told-spent P t (elsewhere P t M) (made-dead P t M (c .before .before .before .before .before .enum-told .given .1)) (c .before .before .before .advance2 .ensures) (not-true _ (c .if2 .taken))
 
 same-length-2 : tie.Need-same-length-2 Inv-loop μ-loop
-same-length-2 c = returns-2 c (c .before .before .before .before .before .before .before .before .before .before .before .before .before .before .before .before .before .before .before .before .pre .p) (c .before .before .before .before .before .before .before .before .before .before .before .before .before .before .before .before .before .before .before .before .pre .here) .long
+same-length-2 c =
+    let start = c .before .before .before .before .before .before .before .before .before .before .before .before .before .before .before .before .before .before .before .before in
+    returns-2 c (start .pre .p) (start .pre .here) .long
 
 loop-less : tie.Need-loop-less Inv-loop μ-loop
 loop-less c = let t = c .before .before .before .before .before .before .before .before .before .before .before .loop-test .taken in omega arith
@@ -90,36 +100,59 @@ enum-told-2 c = search needs
 
 returns-3 : tie.Need-returns-3 Inv-loop μ-loop
 unfolding of-reached
-returns-3 c = λ p E. told-node (c .before .before .before .before .before .before .before .loop .inv _ p (first-passed E (c .before .before .before .before .before .before .before .before .before .before .before .advance .ensures) (not-false _ (c .before .before .before .before .before .before .before .before .if1 .left)))) (c .before .before .before .before .before .before .loop-test .taken) (c .before .before .before .before .split .ensures) reached.Names (c .enum-told2 .given .1)
+returns-3 c =
+    let advance-told = c .before .before .before .before .before .before .before .before .before .before .before .advance .ensures in
+    let if1 = c .before .before .before .before .before .before .before .before .if1 .left in
+    let invariant = c .before .before .before .before .before .before .before .loop .inv in
+    let loop-test = c .before .before .before .before .before .before .loop-test .taken in
+    λ p E. told-node (invariant _ p (first-passed E advance-told (not-false _ if1))) loop-test (c .before .before .before .before .split .ensures) reached.Names (c .enum-told2 .given .1)
 
 same-length-3 : tie.Need-same-length-3 Inv-loop μ-loop
-same-length-3 c = returns-3 c (c .before .before .before .before .before .before .before .before .before .before .before .before .before .before .before .pre .p) (c .before .before .before .before .before .before .before .before .before .before .before .before .before .before .before .pre .here) .long
+same-length-3 c =
+    let start = c .before .before .before .before .before .before .before .before .before .before .before .before .before .before .before in
+    returns-3 c (start .pre .p) (start .pre .here) .long
 
 enum-told-3 : tie.Need-enum-told-3 Inv-loop μ-loop
 enum-told-3 c = search needs
 
 returns-4 : tie.Need-returns-4 Inv-loop μ-loop
 unfolding of-reached
-returns-4 c = λ p E. told-node (c .before .before .before .before .before .before .before .loop .inv _ p (first-passed E (c .before .before .before .before .before .before .before .before .before .before .before .advance .ensures) (not-false _ (c .before .before .before .before .before .before .before .before .if1 .left)))) (c .before .before .before .before .before .before .loop-test .taken) (c .before .before .before .before .split .ensures) reached.Large (c .enum-told3 .given .1)
+returns-4 c =
+    let advance-told = c .before .before .before .before .before .before .before .before .before .before .before .advance .ensures in
+    let if1 = c .before .before .before .before .before .before .before .before .if1 .left in
+    let invariant = c .before .before .before .before .before .before .before .loop .inv in
+    let loop-test = c .before .before .before .before .before .before .loop-test .taken in
+    λ p E. told-node (invariant _ p (first-passed E advance-told (not-false _ if1))) loop-test (c .before .before .before .before .split .ensures) reached.Large (c .enum-told3 .given .1)
 
 same-length-4 : tie.Need-same-length-4 Inv-loop μ-loop
-same-length-4 c = returns-4 c (c .before .before .before .before .before .before .before .before .before .before .before .before .before .before .before .pre .p) (c .before .before .before .before .before .before .before .before .before .before .before .before .before .before .before .pre .here) .long
+same-length-4 c =
+    let start = c .before .before .before .before .before .before .before .before .before .before .before .before .before .before .before in
+    returns-4 c (start .pre .p) (start .pre .here) .long
 
 enum-told-4 : tie.Need-enum-told-4 Inv-loop μ-loop
 enum-told-4 c = search needs
 
 returns-5 : tie.Need-returns-5 Inv-loop μ-loop
 unfolding of-reached
-returns-5 c = λ p E. told-node (c .before .before .before .before .before .before .before .loop .inv _ p (first-passed E (c .before .before .before .before .before .before .before .before .before .before .before .advance .ensures) (not-false _ (c .before .before .before .before .before .before .before .before .if1 .left)))) (c .before .before .before .before .before .before .loop-test .taken) (c .before .before .before .before .split .ensures) reached.Live (c .enum-told4 .given .1)
+returns-5 c =
+    let advance-told = c .before .before .before .before .before .before .before .before .before .before .before .advance .ensures in
+    let if1 = c .before .before .before .before .before .before .before .before .if1 .left in
+    let invariant = c .before .before .before .before .before .before .before .loop .inv in
+    let loop-test = c .before .before .before .before .before .before .loop-test .taken in
+    λ p E. told-node (invariant _ p (first-passed E advance-told (not-false _ if1))) loop-test (c .before .before .before .before .split .ensures) reached.Live (c .enum-told4 .given .1)
 
 same-length-5 : tie.Need-same-length-5 Inv-loop μ-loop
-same-length-5 c = returns-5 c (c .before .before .before .before .before .before .before .before .before .before .before .before .before .before .before .pre .p) (c .before .before .before .before .before .before .before .before .before .before .before .before .before .before .before .pre .here) .long
+same-length-5 c =
+    let start = c .before .before .before .before .before .before .before .before .before .before .before .before .before .before .before in
+    returns-5 c (start .pre .p) (start .pre .here) .long
 
 returns-6 : tie.Need-returns-6 Inv-loop μ-loop
 returns-6 c = λ p E. told-due (c .before .loop .inv _ p (first-passed E (c .before .before .before .before .before .advance .ensures) (not-false _ (c .before .before .if1 .left)))) (c .loop-test .left)
 
 same-length-6 : tie.Need-same-length-6 Inv-loop μ-loop
-same-length-6 c = returns-6 c (c .before .before .before .before .before .before .before .before .before .pre .p) (c .before .before .before .before .before .before .before .before .before .pre .here) .long
+same-length-6 c =
+    let start = c .before .before .before .before .before .before .before .before .before in
+    returns-6 c (start .pre .p) (start .pre .here) .long
 
 pub pick-after-spec : {M : Type 1} → statement M
 pick-after-spec =

@@ -23,7 +23,10 @@ enum-told : tie.Need-enum-told
 enum-told c = search needs
 
 pick-after-requires : tie.Need-pick-after-requires
-pick-after-requires c κs = record { p = _; here = first-ended (c .before .before .before .before .before .before .before .before .before .before .pre .here) (omega (arith, c .before .before .before .before .before .before .before .if1 .left)) (c .before .before .before .before .before .split .ensures) (c .before .enum-told .given .1) }
+pick-after-requires c κs =
+    let start = c .before .before .before .before .before .before .before .before .before .before in
+    let if1 = c .before .before .before .before .before .before .before .if1 .left in
+    record { p = _; here = first-ended (start .pre .here) (omega (arith, if1)) (c .before .before .before .before .before .split .ensures) (c .before .enum-told .given .1) }
 
 enum-told-2 : tie.Need-enum-told-2
 enum-told-2 c = search needs
@@ -48,21 +51,27 @@ same-length-2 c = search needs
 
 returns-3 : tie.Need-returns-3
 unfolding of-reached
-returns-3 c = λ p P. first-node P (omega (arith, c .before .before .before .before .before .before .if1 .left)) (c .before .before .before .before .split .ensures) reached.Names (c .enum-told2 .given .1)
+returns-3 c =
+    let if1 = c .before .before .before .before .before .before .if1 .left in
+    λ p P. first-node P (omega (arith, if1)) (c .before .before .before .before .split .ensures) reached.Names (c .enum-told2 .given .1)
 
 same-length-3 : tie.Need-same-length-3
 same-length-3 c = search needs
 
 returns-4 : tie.Need-returns-4
 unfolding of-reached
-returns-4 c = λ p P. first-node P (omega (arith, c .before .before .before .before .before .before .if1 .left)) (c .before .before .before .before .split .ensures) reached.Large (c .enum-told3 .given .1)
+returns-4 c =
+    let if1 = c .before .before .before .before .before .before .if1 .left in
+    λ p P. first-node P (omega (arith, if1)) (c .before .before .before .before .split .ensures) reached.Large (c .enum-told3 .given .1)
 
 same-length-4 : tie.Need-same-length-4
 same-length-4 c = search needs
 
 returns-5 : tie.Need-returns-5
 unfolding of-reached
-returns-5 c = λ p P. first-node P (omega (arith, c .before .before .before .before .before .before .if1 .left)) (c .before .before .before .before .split .ensures) reached.Live (c .enum-told4 .given .1)
+returns-5 c =
+    let if1 = c .before .before .before .before .before .before .if1 .left in
+    λ p P. first-node P (omega (arith, if1)) (c .before .before .before .before .split .ensures) reached.Live (c .enum-told4 .given .1)
 
 pub pick-from-spec : {M : Type 1} → statement M
 pick-from-spec =

@@ -101,28 +101,38 @@ same-length c = search needs
 
 returns : tie.Need-returns
 unfolding of-plain
-returns c = rw (c .of-sized .ensures) (record { taken = λ st e es node S o. drop-arm S (ap of-plain (c .before .before .before .before .before .enum-told .given .1)) (c .before .before .before .keep .ensures) o; beside = λ st e es S. finished-beside (c .before .before .before .keep .ensures) })
+returns c =
+    let keep-told = c .before .before .before .keep .ensures in
+    rw (c .of-sized .ensures) (record { taken = λ st e es node S o. drop-arm S (ap of-plain (c .before .before .before .before .before .enum-told .given .1)) keep-told o; beside = λ st e es S. finished-beside keep-told })
 
 same-length-2 : tie.Need-same-length-2
 same-length-2 c = search needs
 
 returns-2 : tie.Need-returns-2
 unfolding of-plain
-returns-2 c = rw (c .of-sized2 .ensures) (record { taken = λ st e es node S o. bind-arm S (ap of-plain (c .before .before .before .before .before .enum-told2 .given .1)) (c .before .before .before .finish .ensures) o; beside = λ st e es S. finished-beside (c .before .before .before .finish .ensures) })
+returns-2 c =
+    let finish-told = c .before .before .before .finish .ensures in
+    rw (c .of-sized2 .ensures) (record { taken = λ st e es node S o. bind-arm S (ap of-plain (c .before .before .before .before .before .enum-told2 .given .1)) finish-told o; beside = λ st e es S. finished-beside finish-told })
 
 same-length-3 : tie.Need-same-length-3
 same-length-3 c = search needs
 
 returns-3 : tie.Need-returns-3
 unfolding of-plain
-returns-3 c = rw (c .of-sized3 .ensures) (record { taken = λ st e es node S o. postpone-arm S (ap of-plain (c .before .before .before .before .before .enum-told3 .given .1)) (c .before .before .before .postpone .ensures) o; beside = λ st e es S. postpone-beside _ (omega (arith, S .held .rows .next-row)) (c .before .before .before .postpone .ensures) })
+returns-3 c =
+    let postpone-told = c .before .before .before .postpone .ensures in
+    rw (c .of-sized3 .ensures) (record { taken = λ st e es node S o. postpone-arm S (ap of-plain (c .before .before .before .before .before .enum-told3 .given .1)) postpone-told o; beside = λ st e es S. postpone-beside _ (omega (arith, S .held .rows .next-row)) postpone-told })
 
 same-length-4 : tie.Need-same-length-4
 same-length-4 c = search needs
 
 returns-4 : tie.Need-returns-4
 unfolding of-plain
-returns-4 c = rw (c .of-sized4 .ensures) (record { taken = λ st e es node S o. decompose-arm S (ap of-plain (c .before .before .before .before .before .before .before .enum-told4 .given .1)) (c .before .before .before .before .before .terms-after .ensures .0) (c .before .before .before .decompose .ensures) o; beside = λ st e es S. decompose-beside _ _ (decompose-arm-parts S (ap of-plain (c .before .before .before .before .before .before .before .enum-told4 .given .1))) (c .before .before .before .decompose .ensures) })
+returns-4 c =
+    let terms-after-told = c .before .before .before .before .before .terms-after .ensures in
+    let decompose-told = c .before .before .before .decompose .ensures in
+    let then = c .before .before .before .before .before .before .before in
+    rw (c .of-sized4 .ensures) (record { taken = λ st e es node S o. decompose-arm S (ap of-plain (then .enum-told4 .given .1)) (terms-after-told .0) decompose-told o; beside = λ st e es S. decompose-beside _ _ (decompose-arm-parts S (ap of-plain (then .enum-told4 .given .1))) decompose-told })
 
 returns-5 : tie.Need-returns-5
 unfolding of-plain

@@ -11,13 +11,19 @@ pair-all-requires : tie.Need-pair-all-requires
 pair-all-requires c κs = search needs
 
 keep-requires : tie.Need-keep-requires
-keep-requires c κs = decompose-parts (c .before .before .before .before .before .before .before .args .arities .now) (c .before .before .before .before .before .before .before .args .k) (c .before .before .before .before .before .before .before .pre) (c .before .before .before .pair-all .ensures .0) (c .before .before .before .pair-all .ensures .1)
+keep-requires c κs =
+    let start = c .before .before .before .before .before .before .before in
+    let pair-all-told = c .before .before .before .pair-all .ensures in
+    decompose-parts (start .args .arities .now) (start .args .k) (start .pre) (pair-all-told .0) (pair-all-told .1)
 
 same-length : tie.Need-same-length
 same-length c = search needs
 
 returns : tie.Need-returns
-returns c = rw (arguments-written (c .before .before .before .before .before .before .before .before .before .before .args .arities .now) (c .before .before .before .before .before .before .before .before .before .before .args .k) (c .before .before .before .before .before .before .before .before .before .before .pre) (c .before .before .before .before .before .before .pair-all .ensures .0) (c .before .before .before .before .before .before .pair-all .ensures .1), c .before .before .before .before .before .before .pair-all .ensures .0) at (c .before .before .keep .ensures)
+returns c =
+    let start = c .before .before .before .before .before .before .before .before .before .before in
+    let pair-all-told = c .before .before .before .before .before .before .pair-all .ensures in
+    rw (arguments-written (start .args .arities .now) (start .args .k) (start .pre) (pair-all-told .0) (pair-all-told .1), pair-all-told .0) at (c .before .before .keep .ensures)
 
 pub decompose-spec : {M : Type 1} → statement M
 decompose-spec =

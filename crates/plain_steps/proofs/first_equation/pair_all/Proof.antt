@@ -75,7 +75,11 @@ loop-less : tie.Need-loop-less Inv-loop μ-loop
 loop-less c = omega arith
 
 loop-again : tie.Need-loop-again Inv-loop μ-loop
-loop-again c = paired-more (c .before .before .before .before .before .before .before .loop .inv) (c .before .before .before .before .before .before .loop-test .taken) (c .before .before .before .before .pair-first .ensures .0) (c .before .before .before .before .pair-first .ensures .1) (c .before .before .before .before .pair-first .ensures .2)
+loop-again c =
+    let invariant = c .before .before .before .before .before .before .before .loop .inv in
+    let loop-test = c .before .before .before .before .before .before .loop-test .taken in
+    let pair-first-told = c .before .before .before .before .pair-first .ensures in
+    paired-more invariant loop-test (pair-first-told .0) (pair-first-told .1) (pair-first-told .2)
 
 add-result : tie.Need-add-result Inv-loop μ-loop
 add-result c =

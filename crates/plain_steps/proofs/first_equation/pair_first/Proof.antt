@@ -42,7 +42,9 @@ end-of-term-requires-2 : tie.Need-end-of-term-requires-2
 end-of-term-requires-2 c κs = search needs
 
 copy-requires : tie.Need-copy-requires
-copy-requires c κs = left-copy (c .before .before .before .before .before .before .before .before .before .args .arities .now) (c .before .before .before .before .before .before .before .before .before .pre) (lent-within (c .before .before .before .before .before .before .before .before .before .args .arities .now) (c .before .before .before .before .before .before .before .before .before .pre) _ _ (c .before .before .before .before .before .before .before .before .before .pre .left-within) (c .before .before .before .before .end-of-term .ensures))
+copy-requires c κs =
+    let start = c .before .before .before .before .before .before .before .before .before in
+    left-copy (start .args .arities .now) (start .pre) (lent-within (start .args .arities .now) (start .pre) _ _ (start .pre .left-within) (c .before .before .before .before .end-of-term .ensures))
 
 add-copy : tie.Need-add-copy
 add-copy c =
@@ -50,13 +52,22 @@ add-copy c =
     omega (arith, c .before .before .before .before .before .before .before .before .before .before .before .before .before .pre .to-within)
 
 copy-requires-2 : tie.Need-copy-requires-2
-copy-requires-2 c κs = right-copy (c .before .before .before .before .before .before .before .before .before .before .before .before .before .args .arities .now) (c .before .before .before .before .before .before .before .before .before .before .before .before .before .pre) (lent-within (c .before .before .before .before .before .before .before .before .before .before .before .before .before .args .arities .now) (c .before .before .before .before .before .before .before .before .before .before .before .before .before .pre) _ _ (c .before .before .before .before .before .before .before .before .before .before .before .before .before .pre .left-within) (c .before .before .before .before .before .before .before .before .end-of-term .ensures)) (lent-within (c .before .before .before .before .before .before .before .before .before .before .before .before .before .args .arities .now) (c .before .before .before .before .before .before .before .before .before .before .before .before .before .pre) _ _ (c .before .before .before .before .before .before .before .before .before .before .before .before .before .pre .right-within) (c .before .before .before .before .before .end-of-term2 .ensures)) (c .before .before .before .copy .ensures)
+copy-requires-2 c κs =
+    let start = c .before .before .before .before .before .before .before .before .before .before .before .before .before in
+    let end-of-term-told = c .before .before .before .before .before .before .before .before .end-of-term .ensures in
+    let end-of-term2-told = c .before .before .before .before .before .end-of-term2 .ensures in
+    right-copy (start .args .arities .now) (start .pre) (lent-within (start .args .arities .now) (start .pre) _ _ (start .pre .left-within) end-of-term-told) (lent-within (start .args .arities .now) (start .pre) _ _ (start .pre .right-within) end-of-term2-told) (c .before .before .before .copy .ensures)
 
 same-length : tie.Need-same-length
 same-length c = search needs
 
 returns : tie.Need-returns
-returns c = (lent (c .before .before .before .before .before .before .before .before .before .before .before .before .before .before .before .before .args .arities .now) (c .before .before .before .before .before .before .before .before .before .before .before .before .before .before .before .before .pre) _ _ (c .before .before .before .before .before .before .before .before .before .before .before .end-of-term .ensures), lent (c .before .before .before .before .before .before .before .before .before .before .before .before .before .before .before .before .args .arities .now) (c .before .before .before .before .before .before .before .before .before .before .before .before .before .before .before .before .pre) _ _ (c .before .before .before .before .before .before .before .before .end-of-term2 .ensures), both-copied (c .before .before .before .before .before .before .before .before .before .before .before .before .before .before .before .before .args .arities .now) (c .before .before .before .before .before .before .before .before .before .before .before .before .before .before .before .before .pre) (lent-within (c .before .before .before .before .before .before .before .before .before .before .before .before .before .before .before .before .args .arities .now) (c .before .before .before .before .before .before .before .before .before .before .before .before .before .before .before .before .pre) _ _ (c .before .before .before .before .before .before .before .before .before .before .before .before .before .before .before .before .pre .left-within) (c .before .before .before .before .before .before .before .before .before .before .before .end-of-term .ensures)) (lent-within (c .before .before .before .before .before .before .before .before .before .before .before .before .before .before .before .before .args .arities .now) (c .before .before .before .before .before .before .before .before .before .before .before .before .before .before .before .before .pre) _ _ (c .before .before .before .before .before .before .before .before .before .before .before .before .before .before .before .before .pre .right-within) (c .before .before .before .before .before .before .before .before .end-of-term2 .ensures)) (c .before .before .before .before .before .before .copy .ensures) (c .before .before .copy2 .ensures))
+returns c =
+    let start = c .before .before .before .before .before .before .before .before .before .before .before .before .before .before .before .before in
+    let end-of-term-told = c .before .before .before .before .before .before .before .before .before .before .before .end-of-term .ensures in
+    let end-of-term2-told = c .before .before .before .before .before .before .before .before .end-of-term2 .ensures in
+    let copy-told = c .before .before .before .before .before .before .copy .ensures in
+    (lent (start .args .arities .now) (start .pre) _ _ end-of-term-told, lent (start .args .arities .now) (start .pre) _ _ end-of-term2-told, both-copied (start .args .arities .now) (start .pre) (lent-within (start .args .arities .now) (start .pre) _ _ (start .pre .left-within) end-of-term-told) (lent-within (start .args .arities .now) (start .pre) _ _ (start .pre .right-within) end-of-term2-told) copy-told (c .before .before .copy2 .ensures))
 
 pub pair-first-spec : {M : Type 1} → statement M
 pair-first-spec =

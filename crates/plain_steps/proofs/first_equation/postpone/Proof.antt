@@ -26,10 +26,16 @@ keep-requires : tie.Need-keep-requires
 keep-requires c κs = postpone-parts (c .before .before .before .before .before .before .pre) (c .before .before .before .copy .ensures)
 
 same-length : tie.Need-same-length
-same-length c = finished-length (c .before .before .keep .ensures) ∙ postpone-long (c .before .before .before .before .before .before .before .before .before .pre) (c .before .before .before .before .before .before .copy .ensures)
+same-length c =
+    let start = c .before .before .before .before .before .before .before .before .before in
+    let copy-told = c .before .before .before .before .before .before .copy .ensures in
+    finished-length (c .before .before .keep .ensures) ∙ postpone-long (start .pre) copy-told
 
 returns : tie.Need-returns
-returns c = rw (laid-out (c .before .before .before .before .before .before .before .before .before .pre) (c .before .before .before .before .before .before .copy .ensures)) at (c .before .before .keep .ensures)
+returns c =
+    let start = c .before .before .before .before .before .before .before .before .before in
+    let copy-told = c .before .before .before .before .before .before .copy .ensures in
+    rw (laid-out (start .pre) copy-told) at (c .before .before .keep .ensures)
 
 pub postpone-spec : {M : Type 1} → statement M
 postpone-spec =

@@ -118,7 +118,11 @@ add-copy c =
 
 copy-requires : tie.Need-copy-requires Inv-loop μ-loop
 unfolding seg
-copy-requires c κs = members-parts (c .before .before .before .before .before .before .before .before .before .before .loop .inv .0) (c .before .before .before .before .before .before .before .before .before .loop-test .taken) (c .before .before .before .before .before .before .before .before .before .before .loop .inv .1) _ (c .before .before .before .before .before .before .end-of-term .ensures) _ (c .before .place-of-kernel .ensures)
+copy-requires c κs =
+    let invariant = c .before .before .before .before .before .before .before .before .before .before .loop .inv in
+    let loop-test = c .before .before .before .before .before .before .before .before .before .loop-test .taken in
+    let end-of-term-told = c .before .before .before .before .before .before .end-of-term .ensures in
+    members-parts (invariant .0) loop-test (invariant .1) _ end-of-term-told _ (c .before .place-of-kernel .ensures)
 
 add-read : tie.Need-add-read Inv-loop μ-loop
 unfolding seg
@@ -144,7 +148,12 @@ loop-less c =
 
 loop-again : tie.Need-loop-again Inv-loop μ-loop
 unfolding seg
-loop-again c = (entry-gathered (c .before .before .before .before .before .before .before .before .before .before .before .before .before .loop .inv .0) (c .before .before .before .before .before .before .before .before .before .before .before .before .loop-test .taken) (c .before .before .before .before .before .before .before .before .before .before .before .before .before .loop .inv .1) _ (c .before .before .before .before .before .before .before .before .before .end-of-term .ensures) _ (c .before .before .before .before .place-of-kernel .ensures) (c .before .before .before .before .before .before .before .if1 .taken) (c .before .before .copy .ensures), c .before .before .before .before .before .before .before .before .before .before .before .before .before .loop .inv .1)
+loop-again c =
+    let invariant = c .before .before .before .before .before .before .before .before .before .before .before .before .before .loop .inv in
+    let loop-test = c .before .before .before .before .before .before .before .before .before .before .before .before .loop-test .taken in
+    let end-of-term-told = c .before .before .before .before .before .before .before .before .before .end-of-term .ensures in
+    let if1 = c .before .before .before .before .before .before .before .if1 .taken in
+    (entry-gathered (invariant .0) loop-test (invariant .1) _ end-of-term-told _ (c .before .before .before .before .place-of-kernel .ensures) if1 (c .before .before .copy .ensures), invariant .1)
 
 add-read-2 : tie.Need-add-read-2 Inv-loop μ-loop
 unfolding seg
@@ -162,7 +171,9 @@ loop-less-2 c =
 
 loop-again-2 : tie.Need-loop-again-2 Inv-loop μ-loop
 unfolding seg
-loop-again-2 c = (entry-passed (c .before .before .before .before .before .before .loop .inv .0) (c .before .before .before .before .before .loop-test .taken) (c .before .before .before .before .before .before .loop .inv .1) _ (c .before .before .end-of-term .ensures) (c .if1 .left), c .before .before .before .before .before .before .loop .inv .1)
+loop-again-2 c =
+    let invariant = c .before .before .before .before .before .before .loop .inv in
+    (entry-passed (invariant .0) (c .before .before .before .before .before .loop-test .taken) (invariant .1) _ (c .before .before .end-of-term .ensures) (c .if1 .left), invariant .1)
 
 same-length : tie.Need-same-length Inv-loop μ-loop
 same-length c = gathering-long (c .before .loop .inv .0)

@@ -44,13 +44,19 @@ same-length : tie.Need-same-length
 same-length c = search needs
 
 returns : tie.Need-returns
-returns c = joined-dead (c .before .before .before .before .before .before .before .before .before .before .before .args .arities .now) (c .before .before .before .before .before .before .before .before .before .before .before .pre) (c .before .before .before .before .before .before .gather .ensures .0) (c .before .before .before .before .before .before .gather .ensures .1) (c .before .is-in .ensures) (c .if1 .taken)
+returns c =
+    let start = c .before .before .before .before .before .before .before .before .before .before .before in
+    let gather-told = c .before .before .before .before .before .before .gather .ensures in
+    joined-dead (start .args .arities .now) (start .pre) (gather-told .0) (gather-told .1) (c .before .is-in .ensures) (c .if1 .taken)
 
 same-length-2 : tie.Need-same-length-2
 same-length-2 c = search needs
 
 returns-2 : tie.Need-returns-2
-returns-2 c = joined-names (c .before .before .before .before .before .before .before .before .before .before .before .before .args .arities .now) (c .before .before .before .before .before .before .before .before .before .before .before .before .pre) (c .before .before .before .before .before .before .before .gather .ensures .0) (c .before .before .before .before .before .before .before .gather .ensures .1) (c .before .before .is-in .ensures) (c .before .if1 .left) (c .if2 .taken)
+returns-2 c =
+    let start = c .before .before .before .before .before .before .before .before .before .before .before .before in
+    let gather-told = c .before .before .before .before .before .before .before .gather .ensures in
+    joined-names (start .args .arities .now) (start .pre) (gather-told .0) (gather-told .1) (c .before .before .is-in .ensures) (c .before .if1 .left) (c .if2 .taken)
 
 unknown-word-requires : tie.Need-unknown-word-requires
 unknown-word-requires c κs = search needs
@@ -77,16 +83,30 @@ add-finish-pile-2 : tie.Need-add-finish-pile-2
 add-finish-pile-2 c = search needs
 
 finish-pile-requires : tie.Need-finish-pile-requires
-finish-pile-requires c κs = rw (c .before .unknown-word .ensures) (join-parts (c .before .before .before .before .before .before .before .before .before .before .before .before .before .before .args .arities .now) (c .before .before .before .before .before .before .before .before .before .before .before .before .before .before .pre) (c .before .before .before .before .before .before .before .before .before .gather .ensures .0) (c .before .before .before .before .before .before .before .before .before .gather .ensures .1) (c .before .before .if2 .left))
+finish-pile-requires c κs =
+    let start = c .before .before .before .before .before .before .before .before .before .before .before .before .before .before in
+    let gather-told = c .before .before .before .before .before .before .before .before .before .gather .ensures in
+    rw (c .before .unknown-word .ensures) (join-parts (start .args .arities .now) (start .pre) (gather-told .0) (gather-told .1) (c .before .before .if2 .left))
 
 of-sized-requires : tie.Need-of-sized-requires
 of-sized-requires c κs = search needs
 
 same-length-3 : tie.Need-same-length-3
-same-length-3 c = finished-length (rw (c .before .before .before .before .before .unknown-word .ensures) at (c .before .before .before .finish-pile .ensures)) ∙ value-long (c .before .before .before .before .before .before .before .before .before .before .before .before .before .before .before .before .before .before .args .arities .now) (c .before .before .before .before .before .before .before .before .before .before .before .before .before .before .before .before .before .before .pre) (c .before .before .before .before .before .before .before .before .before .before .before .before .before .gather .ensures .0) (c .before .before .before .before .before .before .before .before .before .before .before .before .before .gather .ensures .1)
+same-length-3 c =
+    let start = c .before .before .before .before .before .before .before .before .before .before .before .before .before .before .before .before .before .before in
+    let gather-told = c .before .before .before .before .before .before .before .before .before .before .before .before .before .gather .ensures in
+    let unknown-word-told = c .before .before .before .before .before .unknown-word .ensures in
+    finished-length (rw unknown-word-told at (c .before .before .before .finish-pile .ensures)) ∙ value-long (start .args .arities .now) (start .pre) (gather-told .0) (gather-told .1)
 
 returns-3 : tie.Need-returns-3
-returns-3 c = rw (c .of-sized .ensures) (joined-live (c .before .before .before .before .before .before .before .before .before .before .before .before .before .before .before .before .before .before .args .arities .now) (c .before .before .before .before .before .before .before .before .before .before .before .before .before .before .before .before .before .before .pre) (c .before .before .before .before .before .before .before .before .before .before .before .before .before .gather .ensures .0) (c .before .before .before .before .before .before .before .before .before .before .before .before .before .gather .ensures .1) (c .before .before .before .before .before .before .before .before .is-in .ensures) (c .before .before .before .before .before .before .before .if1 .left) (c .before .before .before .before .before .before .if2 .left) (rw (c .before .before .before .before .before .unknown-word .ensures) at (c .before .before .before .finish-pile .ensures)))
+returns-3 c =
+    let start = c .before .before .before .before .before .before .before .before .before .before .before .before .before .before .before .before .before .before in
+    let gather-told = c .before .before .before .before .before .before .before .before .before .before .before .before .before .gather .ensures in
+    let is-in-told = c .before .before .before .before .before .before .before .before .is-in .ensures in
+    let if1 = c .before .before .before .before .before .before .before .if1 .left in
+    let if2 = c .before .before .before .before .before .before .if2 .left in
+    let unknown-word-told = c .before .before .before .before .before .unknown-word .ensures in
+    rw (c .of-sized .ensures) (joined-live (start .args .arities .now) (start .pre) (gather-told .0) (gather-told .1) is-in-told if1 if2 (rw unknown-word-told at (c .before .before .before .finish-pile .ensures)))
 
 pub join-spec : {M : Type 1} → statement M
 join-spec =

@@ -39,16 +39,24 @@ term-end-requires : tie.Need-term-end-requires Inv-loop μ-loop
 term-end-requires c κs = let o = rated-set-of (c .before .before .before .before .before .loop .inv) (c .before .before .before .before .loop-test .taken) (c .before .before .rank-of .ensures) (c .if1 .taken) in record { unknowns = _; terms = o .ranked .placed .terms; inside = next-in o }
 
 mul-ranks-2 : tie.Need-mul-ranks-2 Inv-loop μ-loop
-mul-ranks-2 c = let o = rated-set-of (c .before .before .before .before .before .before .loop .inv) (c .before .before .before .before .before .loop-test .taken) (c .before .before .before .rank-of .ensures) (c .before .if1 .taken) in omega (arith, c .term-end .ensures, ends-in o, o .ranked .long)
+mul-ranks-2 c =
+    let invariant = c .before .before .before .before .before .before .loop .inv in
+    let o = rated-set-of invariant (c .before .before .before .before .before .loop-test .taken) (c .before .before .before .rank-of .ensures) (c .before .if1 .taken) in
+    omega (arith, c .term-end .ensures, ends-in o, o .ranked .long)
 
 slice-write-ranks-2 : tie.Need-slice-write-ranks-2 Inv-loop μ-loop
-slice-write-ranks-2 c = let o = rated-set-of (c .before .before .before .before .before .before .loop .inv) (c .before .before .before .before .before .loop-test .taken) (c .before .before .before .rank-of .ensures) (c .before .if1 .taken) in omega (arith, c .term-end .ensures, ends-in o, o .ranked .long)
+slice-write-ranks-2 c =
+    let invariant = c .before .before .before .before .before .before .loop .inv in
+    let o = rated-set-of invariant (c .before .before .before .before .before .loop-test .taken) (c .before .before .before .rank-of .ensures) (c .before .if1 .taken) in
+    omega (arith, c .term-end .ensures, ends-in o, o .ranked .long)
 
 loop-less : tie.Need-loop-less Inv-loop μ-loop
 loop-less c = let z = c .before .before .before .before .before .loop-test .taken in omega arith
 
 loop-again : tie.Need-loop-again Inv-loop μ-loop
-loop-again c = rw (c .term-end .ensures) (rated-past (c .before .before .before .before .before .before .loop .inv) (c .before .before .before .before .before .loop-test .taken) (c .before .before .before .rank-of .ensures) (c .before .if1 .taken))
+loop-again c =
+    let invariant = c .before .before .before .before .before .before .loop .inv in
+    rw (c .term-end .ensures) (rated-past invariant (c .before .before .before .before .before .loop-test .taken) (c .before .before .before .rank-of .ensures) (c .before .if1 .taken))
 
 loop-less-2 : tie.Need-loop-less-2 Inv-loop μ-loop
 loop-less-2 c = let z = c .before .before .before .before .loop-test .taken in omega arith

@@ -35,7 +35,10 @@ mul-rest c = let o = c .before .before .before .before .before .before .before .
 
 shared-slice-read-rest : tie.Need-shared-slice-read-rest
 unfolding rest-of
-shared-slice-read-rest c = let o = c .before .before .before .before .before .before .before .before .before .pre in omega (arith, rw (c .before .before .term-end .ensures) at (c .before .resolve2 .ensures), rest-in o, o .ranked .long)
+shared-slice-read-rest c =
+    let start = c .before .before .before .before .before .before .before .before .before in
+    let o = start .pre in
+    omega (arith, rw (c .before .before .term-end .ensures) at (c .before .resolve2 .ensures), rest-in o, o .ranked .long)
 
 above-requires : tie.Need-above-requires
 above-requires c κs = search needs
@@ -45,7 +48,10 @@ larger-requires c κs = search needs
 
 returns : tie.Need-returns
 unfolding member-of rest-of
-returns c = set-told (c .before .before .before .before .before .before .before .before .before .before .before .pre) (rw (c .before .before .before .before .before .before .resolve .ensures) at (c .before .above .ensures)) (rw (c .before .before .before .before .term-end .ensures) at (rw (c .before .before .before .resolve2 .ensures) at (c .larger .ensures)))
+returns c =
+    let start = c .before .before .before .before .before .before .before .before .before .before .before in
+    let resolve-told = c .before .before .before .before .before .before .resolve .ensures in
+    set-told (start .pre) (rw resolve-told at (c .before .above .ensures)) (rw (c .before .before .before .before .term-end .ensures) at (rw (c .before .before .before .resolve2 .ensures) at (c .larger .ensures)))
 
 pub rank-of-set-spec : {M : Type 1} → statement M
 rank-of-set-spec =

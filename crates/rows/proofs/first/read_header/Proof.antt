@@ -35,7 +35,10 @@ wide-requires-5 c κs = search needs
 
 returns : tie.Need-returns
 unfolding header-in
-returns c = rw (c .wide5 .ensures, c .before .before .wide4 .ensures, c .before .before .before .before .wide3 .ensures, c .before .before .before .before .before .before .wide2 .ensures, c .before .before .before .before .before .before .before .before .wide .ensures)
+returns c =
+    let wide-told = c .before .before .before .before .before .before .before .before .wide .ensures in
+    let wide2-told = c .before .before .before .before .before .before .wide2 .ensures in
+    rw (c .wide5 .ensures, c .before .before .wide4 .ensures, c .before .before .before .before .wide3 .ensures, wide2-told, wide-told)
 
 pub read-header-spec : {M : Type 1} → statement M
 read-header-spec =

@@ -14,7 +14,9 @@ returns : tie.Need-returns
 returns c = compared-apart _ _ _ (λ e. c .if1 .taken (c .before .before .word-at .ensures ∙ e ∙ sym (c .before .word-at2 .ensures)))
 
 returns-2 : tie.Need-returns-2
-returns-2 c = compared-empty _ _ _ (sym (c .before .before .before .word-at .ensures) ∙ c .before .if1 .left ∙ c .before .before .word-at2 .ensures) (sym (c .before .before .before .word-at .ensures) ∙ c .if2 .taken)
+returns-2 c =
+    let word-at-told = c .before .before .before .word-at .ensures in
+    compared-empty _ _ _ (sym word-at-told ∙ c .before .if1 .left ∙ c .before .before .word-at2 .ensures) (sym word-at-told ∙ c .if2 .taken)
 
 word-of-kernel-requires : tie.Need-word-of-kernel-requires
 word-of-kernel-requires c κs = search needs

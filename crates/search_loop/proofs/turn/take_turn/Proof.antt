@@ -43,7 +43,10 @@ most-passed-requires : tie.Need-most-passed-requires
 most-passed-requires c κs = search needs
 
 look-requires : tie.Need-look-requires
-look-requires c κs = let R = c .before .before .before .before .before .before .before .before .before .pre .1 in (R .top .state, asks R (number-here R (c .before .before .number-in .ensures)) (c .before .most-passed .ensures))
+look-requires c κs =
+    let start = c .before .before .before .before .before .before .before .before .before in
+    let R = start .pre .1 in
+    (R .top .state, asks R (number-here R (c .before .before .number-in .ensures)) (c .before .most-passed .ensures))
 
 enum-known-next : tie.Need-enum-known-next
 enum-known-next c = search needs
@@ -129,7 +132,10 @@ meet-requires c κs =
     (c .with-nodes3 .ensures)
 
 add-shown-then : tie.Need-add-shown-then
-add-shown-then c = let R = c .before .before .before .before .before .before .before .before .before .before .before .before .before .before .before .before .before .before .before .before .before .before .before .pre .1 in omega (arith, R .deep, R .suits .depth)
+add-shown-then c =
+    let start = c .before .before .before .before .before .before .before .before .before .before .before .before .before .before .before .before .before .before .before .before .before .before .before in
+    let R = start .pre .1 in
+    omega (arith, R .deep, R .suits .depth)
 
 shown-then-requires-2 : tie.Need-shown-then-requires-2
 shown-then-requires-2 c κs = search needs

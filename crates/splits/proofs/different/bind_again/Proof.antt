@@ -36,7 +36,10 @@ same-length c = search needs
 
 returns : tie.Need-returns
 unfolding seg
-returns c = record { makes = λ st name value A. again-made A (c .before .before .before .before .before .read-header .ensures) (c .before .before .before .before .rest-of .ensures) (c .before .before .finish .ensures); kept = λ from scratch T. finished-elsewhere T (c .before .before .finish .ensures) }
+returns c =
+    let read-header-told = c .before .before .before .before .before .read-header .ensures in
+    let finish-told = c .before .before .finish .ensures in
+    record { makes = λ st name value A. again-made A read-header-told (c .before .before .before .before .rest-of .ensures) finish-told; kept = λ from scratch T. finished-elsewhere T finish-told }
 
 pub bind-again-spec : {M : Type 1} → statement M
 bind-again-spec =

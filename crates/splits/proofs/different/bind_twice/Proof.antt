@@ -38,7 +38,9 @@ enum-told c = search needs
 
 bind-again-requires : tie.Need-bind-again-requires
 unfolding of-sized
-bind-again-requires c κs = second-parts (c .before .before .before .before .before .before .before .before .before .pre .parts) (c .before .before .before .before .before .bound .ensures) (ap of-sized (c .before .enum-told .given .1))
+bind-again-requires c κs =
+    let start = c .before .before .before .before .before .before .before .before .before in
+    second-parts (start .pre .parts) (c .before .before .before .before .before .bound .ensures) (ap of-sized (c .before .enum-told .given .1))
 
 enum-told-2 : tie.Need-enum-told-2
 enum-told-2 c = search needs
@@ -48,14 +50,20 @@ same-length c = search needs
 
 returns : tie.Need-returns
 unfolding of-sized
-returns c = record { makes = λ p s r D. twice-made D (c .before .before .before .before .before .before .before .before .bound .ensures) (ap of-sized (c .before .before .before .before .enum-told .given .1)) (c .before .before .bind-again .ensures); kept = twice-kept (c .before .before .before .before .before .before .before .before .before .before .before .before .pre .parts) (c .before .before .before .before .before .before .before .before .bound .ensures) (c .before .before .bind-again .ensures) }
+returns c =
+    let start = c .before .before .before .before .before .before .before .before .before .before .before .before in
+    let bound-told = c .before .before .before .before .before .before .before .before .bound .ensures in
+    let bind-again-told = c .before .before .bind-again .ensures in
+    record { makes = λ p s r D. twice-made D bound-told (ap of-sized (c .before .before .before .before .enum-told .given .1)) bind-again-told; kept = twice-kept (start .pre .parts) bound-told bind-again-told }
 
 same-length-2 : tie.Need-same-length-2
 same-length-2 c = search needs
 
 returns-2 : tie.Need-returns-2
 unfolding of-sized
-returns-2 c = record { makes = λ p s r D. twice-large D (c .before .before .before .before .bound .ensures) (not-large (ap of-sized (c .enum-told2 .given .1))); kept = c .before .before .before .before .bound .ensures .kept }
+returns-2 c =
+    let bound-told = c .before .before .before .before .bound .ensures in
+    record { makes = λ p s r D. twice-large D bound-told (not-large (ap of-sized (c .enum-told2 .given .1))); kept = bound-told .kept }
 
 pub bind-twice-spec : {M : Type 1} → statement M
 bind-twice-spec =

@@ -22,7 +22,12 @@ is-in-requires-4 : tie.Need-is-in-requires-4
 is-in-requires-4 c κs = search needs
 
 returns-3 : tie.Need-returns-3
-returns-3 c = let e = sym (c .before .before .before .before .before .before .is-in .ensures) ∙ c .before .before .before .before .before .if1 .left in let f = sym (c .before .before .before .before .is-in2 .ensures) ∙ c .before .before .before .if2 .left in let g = sym (c .before .before .is-in3 .ensures) ∙ c .before .if3 .taken in rw (e, f, g) (c .is-in4 .ensures)
+returns-3 c =
+    let is-in-told = c .before .before .before .before .before .before .is-in .ensures in
+    let e = sym is-in-told ∙ c .before .before .before .before .before .if1 .left in
+    let f = sym (c .before .before .before .before .is-in2 .ensures) ∙ c .before .before .before .if2 .left in
+    let g = sym (c .before .before .is-in3 .ensures) ∙ c .before .if3 .taken in
+    rw (e, f, g) (c .is-in4 .ensures)
 
 returns-4 : tie.Need-returns-4
 returns-4 c = let e = sym (c .before .before .before .before .before .is-in .ensures) ∙ c .before .before .before .before .if1 .left in let f = sym (c .before .before .before .is-in2 .ensures) ∙ c .before .before .if2 .left in let g = sym (c .before .is-in3 .ensures) ∙ c .if3 .left in rw (e, f, g)

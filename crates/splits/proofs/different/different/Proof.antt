@@ -51,10 +51,18 @@ lay-joined-requires : tie.Need-lay-joined-requires
 lay-joined-requires c κs = search needs
 
 add-u : tie.Need-add-u
-add-u c = let N = numbers (c .before .before .before .before .before .before .before .before .before .before .before .pre .due .opened) in let J = joined-within (c .before .before .before .before .before .before .before .before .before .before .before .pre .due) (c .before .before .before .before .before .before .before .before .before .before .before .pre .kind) (c .before .before .before .lay-joined .ensures) in omega (arith, J .0, J .1, J .2)
+add-u c =
+    let start = c .before .before .before .before .before .before .before .before .before .before .before in
+    let N = numbers (start .pre .due .opened) in
+    let J = joined-within (start .pre .due) (start .pre .kind) (c .before .before .before .lay-joined .ensures) in
+    omega (arith, J .0, J .1, J .2)
 
 add-t : tie.Need-add-t
-add-t c = let N = numbers (c .before .before .before .before .before .before .before .before .before .before .before .before .pre .due .opened) in let J = joined-within (c .before .before .before .before .before .before .before .before .before .before .before .before .pre .due) (c .before .before .before .before .before .before .before .before .before .before .before .before .pre .kind) (c .before .before .before .before .lay-joined .ensures) in omega (arith, J .0, J .1, J .2)
+add-t c =
+    let start = c .before .before .before .before .before .before .before .before .before .before .before .before in
+    let N = numbers (start .pre .due .opened) in
+    let J = joined-within (start .pre .due) (start .pre .kind) (c .before .before .before .before .lay-joined .ensures) in
+    omega (arith, J .0, J .1, J .2)
 
 mul-crosses : tie.Need-mul-crosses
 mul-crosses c = search needs
@@ -66,7 +74,12 @@ part-crosses-start : tie.Need-part-crosses-start
 part-crosses-start c = search needs
 
 part-crosses-end : tie.Need-part-crosses-end
-part-crosses-end c = let N = numbers (c .before .before .before .before .before .before .before .before .before .before .before .before .before .pre .due .opened) in let J = joined-within (c .before .before .before .before .before .before .before .before .before .before .before .before .before .pre .due) (c .before .before .before .before .before .before .before .before .before .before .before .before .before .pre .kind) (c .before .before .before .before .before .lay-joined .ensures) in omega (arith, J .0, J .1, J .2)
+part-crosses-end c =
+    let start = c .before .before .before .before .before .before .before .before .before .before .before .before .before in
+    let lay-joined-told = c .before .before .before .before .before .lay-joined .ensures in
+    let N = numbers (start .pre .due .opened) in
+    let J = joined-within (start .pre .due) (start .pre .kind) lay-joined-told in
+    omega (arith, J .0, J .1, J .2)
 
 mul-crosses-2 : tie.Need-mul-crosses-2
 mul-crosses-2 c = search needs
@@ -78,7 +91,12 @@ part-crosses-start-2 : tie.Need-part-crosses-start-2
 part-crosses-start-2 c = search needs
 
 part-crosses-end-2 : tie.Need-part-crosses-end-2
-part-crosses-end-2 c = let N = numbers (c .before .before .before .before .before .before .before .before .before .before .before .before .before .before .pre .due .opened) in let J = joined-within (c .before .before .before .before .before .before .before .before .before .before .before .before .before .before .pre .due) (c .before .before .before .before .before .before .before .before .before .before .before .before .before .before .pre .kind) (c .before .before .before .before .before .before .lay-joined .ensures) in omega (arith, J .0, J .1, J .2)
+part-crosses-end-2 c =
+    let start = c .before .before .before .before .before .before .before .before .before .before .before .before .before .before in
+    let lay-joined-told = c .before .before .before .before .before .before .lay-joined .ensures in
+    let N = numbers (start .pre .due .opened) in
+    let J = joined-within (start .pre .due) (start .pre .kind) lay-joined-told in
+    omega (arith, J .0, J .1, J .2)
 
 crosses-requires : tie.Need-crosses-requires
 crosses-requires c κs = search needs
@@ -88,18 +106,25 @@ same-length c = search needs
 
 returns : tie.Need-returns
 unfolding seg
-returns c = record { makes = λ p D k. different-dead D k (c .before .before .before .before .before .before .before .before .before .lay-joined .ensures) refl refl (c .before .crosses .ensures) (c .if1 .taken); kept = λ p D k. joined-elsewhere D k (c .before .before .before .before .before .before .before .before .before .lay-joined .ensures) }
+returns c =
+    let lay-joined-told = c .before .before .before .before .before .before .before .before .before .lay-joined .ensures in
+    record { makes = λ p D k. different-dead D k lay-joined-told refl refl (c .before .crosses .ensures) (c .if1 .taken); kept = λ p D k. joined-elsewhere D k lay-joined-told }
 
 same-length-2 : tie.Need-same-length-2
 same-length-2 c = search needs
 
 returns-2 : tie.Need-returns-2
 unfolding seg
-returns-2 c = record { makes = λ p D k. different-names D k (c .before .before .before .before .before .before .before .before .before .before .lay-joined .ensures) refl refl (c .before .before .crosses .ensures) (c .before .if1 .left) (c .if2 .taken); kept = λ p D k. joined-elsewhere D k (c .before .before .before .before .before .before .before .before .before .before .lay-joined .ensures) }
+returns-2 c =
+    let lay-joined-told = c .before .before .before .before .before .before .before .before .before .before .lay-joined .ensures in
+    record { makes = λ p D k. different-names D k lay-joined-told refl refl (c .before .before .crosses .ensures) (c .before .if1 .left) (c .if2 .taken); kept = λ p D k. joined-elsewhere D k lay-joined-told }
 
 renew-requires : tie.Need-renew-requires
 unfolding seg
-renew-requires c κs = different-parts (c .before .before .before .before .before .before .before .before .before .before .before .before .before .before .before .before .before .before .before .pre .due) (c .before .before .before .before .before .before .before .before .before .before .before .before .before .before .before .before .before .before .before .pre .kind) (c .before .before .before .before .before .before .before .before .before .before .before .lay-joined .ensures) refl refl (c .before .before .before .crosses .ensures) (c .before .before .if1 .left) (c .before .if2 .left)
+renew-requires c κs =
+    let start = c .before .before .before .before .before .before .before .before .before .before .before .before .before .before .before .before .before .before .before in
+    let lay-joined-told = c .before .before .before .before .before .before .before .before .before .before .before .lay-joined .ensures in
+    different-parts (start .pre .due) (start .pre .kind) lay-joined-told refl refl (c .before .before .before .crosses .ensures) (c .before .before .if1 .left) (c .before .if2 .left)
 
 of-sized-requires : tie.Need-of-sized-requires
 of-sized-requires c κs = search needs
@@ -109,7 +134,12 @@ same-length-3 c = search needs
 
 returns-3 : tie.Need-returns-3
 unfolding seg
-returns-3 c = rw (c .of-sized .ensures) (record { makes = λ p D k. different-made D k (c .before .before .before .before .before .before .before .before .before .before .before .before .before .before .before .lay-joined .ensures) refl refl (c .before .before .before .before .before .before .before .crosses .ensures) (c .before .before .before .before .before .before .if1 .left) (c .before .before .before .before .before .if2 .left) (c .before .before .before .renew .ensures); kept = λ p D k. elsewhere-next (joined-elsewhere D k (c .before .before .before .before .before .before .before .before .before .before .before .before .before .before .before .lay-joined .ensures)) (c .before .before .before .renew .ensures .kept) })
+returns-3 c =
+    let lay-joined-told = c .before .before .before .before .before .before .before .before .before .before .before .before .before .before .before .lay-joined .ensures in
+    let crosses-told = c .before .before .before .before .before .before .before .crosses .ensures in
+    let if1 = c .before .before .before .before .before .before .if1 .left in
+    let renew-told = c .before .before .before .renew .ensures in
+    rw (c .of-sized .ensures) (record { makes = λ p D k. different-made D k lay-joined-told refl refl crosses-told if1 (c .before .before .before .before .before .if2 .left) renew-told; kept = λ p D k. elsewhere-next (joined-elsewhere D k lay-joined-told) (renew-told .kept) })
 
 pub different-spec : {M : Type 1} → statement M
 different-spec =

@@ -30,13 +30,19 @@ tail-members-requires : tie.Need-tail-members-requires
 tail-members-requires c κs = u-parts (c .before .before .pre .opened)
 
 tail-members-requires-2 : tie.Need-tail-members-requires-2
-tail-members-requires-2 c κs = t-parts (c .before .before .before .before .before .before .pre .opened) (c .before .before .before .tail-members .ensures .0) (c .before .before .before .tail-members .ensures .1)
+tail-members-requires-2 c κs =
+    let start = c .before .before .before .before .before .before in
+    let tail-members-told = c .before .before .before .tail-members .ensures in
+    t-parts (start .pre .opened) (tail-members-told .0) (tail-members-told .1)
 
 same-length : tie.Need-same-length
 same-length c = search needs
 
 returns : tie.Need-returns
-returns c = record { laid = λ arities rest next p S. both-laid S (c .before .before .before .before .before .before .tail-members .ensures .0) (c .before .before .before .before .before .before .tail-members .ensures .1) (c .before .before .tail-members2 .ensures .0) (c .before .before .tail-members2 .ensures .1) }
+returns c =
+    let tail-members-told = c .before .before .before .before .before .before .tail-members .ensures in
+    let tail-members2-told = c .before .before .tail-members2 .ensures in
+    record { laid = λ arities rest next p S. both-laid S (tail-members-told .0) (tail-members-told .1) (tail-members2-told .0) (tail-members2-told .1) }
 
 pub lay-joined-spec : {M : Type 1} → statement M
 lay-joined-spec =

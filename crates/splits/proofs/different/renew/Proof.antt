@@ -15,7 +15,10 @@ enum-known-m : tie.Need-enum-known-m
 enum-known-m c = search needs
 
 bind-twice-requires : tie.Need-bind-twice-requires
-bind-twice-requires c κs = renew-parts (c .before .before .before .before .before .before .before .before .before .before .before .pre .parts) (c .before .before .before .before .before .before .share .ensures) _ (c .before .before .m .given .1)
+bind-twice-requires c κs =
+    let start = c .before .before .before .before .before .before .before .before .before .before .before in
+    let share-told = c .before .before .before .before .before .before .share .ensures in
+    renew-parts (start .pre .parts) share-told _ (c .before .before .m .given .1)
 
 enum-told : tie.Need-enum-told
 enum-told c = search needs
@@ -24,14 +27,21 @@ same-length : tie.Need-same-length
 same-length c = search needs
 
 returns : tie.Need-returns
-returns c = record { makes = λ l₀ p s r R. renew-made R (c .before .before .before .before .before .before .before .before .before .share .ensures) _ (c .before .before .before .before .before .m .given .1) (c .before .before .bind-twice .ensures); kept = elsewhere-next (share-elsewhere (c .before .before .before .before .before .before .before .before .before .before .before .before .before .before .pre .parts) (c .before .before .before .before .before .before .before .before .before .share .ensures)) (c .before .before .bind-twice .ensures .kept) }
+returns c =
+    let start = c .before .before .before .before .before .before .before .before .before .before .before .before .before .before in
+    let share-told = c .before .before .before .before .before .before .before .before .before .share .ensures in
+    let bind-twice-told = c .before .before .bind-twice .ensures in
+    record { makes = λ l₀ p s r R. renew-made R share-told _ (c .before .before .before .before .before .m .given .1) bind-twice-told; kept = elsewhere-next (share-elsewhere (start .pre .parts) share-told) (bind-twice-told .kept) }
 
 same-length-2 : tie.Need-same-length-2
 same-length-2 c = search needs
 
 returns-2 : tie.Need-returns-2
 unfolding of-sized
-returns-2 c = record { makes = λ l₀ p s r R. renew-large R (c .before .before .before .before .share .ensures) (c .enum-told .given .1); kept = share-elsewhere (c .before .before .before .before .before .before .before .before .before .pre .parts) (c .before .before .before .before .share .ensures) }
+returns-2 c =
+    let start = c .before .before .before .before .before .before .before .before .before in
+    let share-told = c .before .before .before .before .share .ensures in
+    record { makes = λ l₀ p s r R. renew-large R share-told (c .enum-told .given .1); kept = share-elsewhere (start .pre .parts) share-told }
 
 pub renew-spec : {M : Type 1} → statement M
 renew-spec =

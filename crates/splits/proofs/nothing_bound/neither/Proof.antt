@@ -38,7 +38,9 @@ add-equations-2 : tie.Need-add-equations-2
 add-equations-2 c = search needs
 
 equations-requires : tie.Need-equations-requires
-equations-requires c κs = plain-parts (c .before .before .before .before .before .pre .due) _ (s-place (c .before .before .before .before .before .pre .due)) (s-apart (c .before .before .before .before .before .pre .due) 1 (omega arith))
+equations-requires c κs =
+    let start = c .before .before .before .before .before in
+    plain-parts (start .pre .due) _ (s-place (start .pre .due)) (s-apart (start .pre .due) 1 (omega arith))
 
 enum-known-w : tie.Need-enum-known-w
 enum-known-w c = search needs
@@ -47,24 +49,48 @@ add-tails-equation : tie.Need-add-tails-equation
 add-tails-equation c = search needs
 
 add-tails-equation-2 : tie.Need-add-tails-equation-2
-add-tails-equation-2 c = let N = numbers (c .before .before .before .before .before .before .before .before .before .before .before .before .pre .due .opened) in let k = written-within (c .before .before .before .before .before .before .before .before .before .before .before .before .pre .due) (plain (c .before .before .before .before .before .before .before .before .before .before .before .before .pre .due) _ (s-place (c .before .before .before .before .before .before .before .before .before .before .before .before .pre .due)) (s-apart (c .before .before .before .before .before .before .before .before .before .before .before .before .pre .due) 1 (omega arith)) refl (rw (c .before .before .w .given .1) at (c .before .before .before .before .before .before .equations .ensures))) in omega (arith, c .before .before .before .before .before .before .before .before .before .before .before .before .pre .due .before)
+add-tails-equation-2 c =
+    let start = c .before .before .before .before .before .before .before .before .before .before .before .before in
+    let equations-told = c .before .before .before .before .before .before .equations .ensures in
+    let N = numbers (start .pre .due .opened) in
+    let k = written-within (start .pre .due) (plain (start .pre .due) _ (s-place (start .pre .due)) (s-apart (start .pre .due) 1 (omega arith)) refl (rw (c .before .before .w .given .1) at equations-told)) in
+    omega (arith, start .pre .due .before)
 
 sub-tails-equation : tie.Need-sub-tails-equation
-sub-tails-equation c = let N = numbers (c .before .before .before .before .before .before .before .before .before .before .before .before .pre .due .opened) in let k = written-within (c .before .before .before .before .before .before .before .before .before .before .before .before .pre .due) (plain (c .before .before .before .before .before .before .before .before .before .before .before .before .pre .due) _ (s-place (c .before .before .before .before .before .before .before .before .before .before .before .before .pre .due)) (s-apart (c .before .before .before .before .before .before .before .before .before .before .before .before .pre .due) 1 (omega arith)) refl (rw (c .before .before .w .given .1) at (c .before .before .before .before .before .before .equations .ensures))) in omega (arith, c .before .before .before .before .before .before .before .before .before .before .before .before .pre .due .before)
+sub-tails-equation c =
+    let start = c .before .before .before .before .before .before .before .before .before .before .before .before in
+    let equations-told = c .before .before .before .before .before .before .equations .ensures in
+    let N = numbers (start .pre .due .opened) in
+    let k = written-within (start .pre .due) (plain (start .pre .due) _ (s-place (start .pre .due)) (s-apart (start .pre .due) 1 (omega arith)) refl (rw (c .before .before .w .given .1) at equations-told)) in
+    omega (arith, start .pre .due .before)
 
 tails-equation-requires : tie.Need-tails-equation-requires
-tails-equation-requires c κs = tails-parts (c .before .before .before .before .before .before .before .before .before .before .before .before .pre .due) (plain (c .before .before .before .before .before .before .before .before .before .before .before .before .pre .due) _ (s-place (c .before .before .before .before .before .before .before .before .before .before .before .before .pre .due)) (s-apart (c .before .before .before .before .before .before .before .before .before .before .before .before .pre .due) 1 (omega arith)) refl (rw (c .before .before .w .given .1) at (c .before .before .before .before .before .before .equations .ensures)))
+tails-equation-requires c κs =
+    let start = c .before .before .before .before .before .before .before .before .before .before .before .before in
+    let equations-told = c .before .before .before .before .before .before .equations .ensures in
+    tails-parts (start .pre .due) (plain (start .pre .due) _ (s-place (start .pre .due)) (s-apart (start .pre .due) 1 (omega arith)) refl (rw (c .before .before .w .given .1) at equations-told))
 
 enum-known-v : tie.Need-enum-known-v
 enum-known-v c = search needs
 
 add-keep : tie.Need-add-keep
 unfolding further
-add-keep c = let N = numbers (c .before .before .before .before .before .before .before .before .before .before .before .before .before .before .before .before .before .before .before .pre .due .opened) in let w = (last-written (c .before .before .before .before .before .before .before .before .before .before .before .before .before .before .before .before .before .before .before .pre .due) (plain (c .before .before .before .before .before .before .before .before .before .before .before .before .before .before .before .before .before .before .before .pre .due) _ (s-place (c .before .before .before .before .before .before .before .before .before .before .before .before .before .before .before .before .before .before .before .pre .due)) (s-apart (c .before .before .before .before .before .before .before .before .before .before .before .before .before .before .before .before .before .before .before .pre .due) 1 (omega arith)) refl (rw (c .before .before .before .before .before .before .before .before .before .w .given .1) at (c .before .before .before .before .before .before .before .before .before .before .before .before .before .equations .ensures))) (rw (c .before .before .v .given .1) at (c .before .before .before .before .before .before .tails-equation .ensures))) in omega (arith, done-fits w, done-length w)
+add-keep c =
+    let start = c .before .before .before .before .before .before .before .before .before .before .before .before .before .before .before .before .before .before .before in
+    let equations-told = c .before .before .before .before .before .before .before .before .before .before .before .before .before .equations .ensures in
+    let tails-equation-told = c .before .before .before .before .before .before .tails-equation .ensures in
+    let N = numbers (start .pre .due .opened) in
+    let w = (last-written (start .pre .due) (plain (start .pre .due) _ (s-place (start .pre .due)) (s-apart (start .pre .due) 1 (omega arith)) refl (rw (c .before .before .before .before .before .before .before .before .before .w .given .1) at equations-told)) (rw (c .before .before .v .given .1) at tails-equation-told)) in
+    omega (arith, done-fits w, done-length w)
 
 keep-requires : tie.Need-keep-requires
 unfolding further
-keep-requires c κs = let h = s-place (c .before .before .before .before .before .before .before .before .before .before .before .before .before .before .before .before .before .before .before .pre .due) in neither-parts (c .before .before .before .before .before .before .before .before .before .before .before .before .before .before .before .before .before .before .before .pre .due) (c .before .before .before .before .before .before .before .before .before .before .before .before .before .before .before .before .before .before .before .pre .kind) (last-written (c .before .before .before .before .before .before .before .before .before .before .before .before .before .before .before .before .before .before .before .pre .due) (plain (c .before .before .before .before .before .before .before .before .before .before .before .before .before .before .before .before .before .before .before .pre .due) _ (s-place (c .before .before .before .before .before .before .before .before .before .before .before .before .before .before .before .before .before .before .before .pre .due)) (s-apart (c .before .before .before .before .before .before .before .before .before .before .before .before .before .before .before .before .before .before .before .pre .due) 1 (omega arith)) refl (rw (c .before .before .before .before .before .before .before .before .before .w .given .1) at (c .before .before .before .before .before .before .before .before .before .before .before .before .before .equations .ensures))) (rw (c .before .before .v .given .1) at (c .before .before .before .before .before .before .tails-equation .ensures))) _ (omega arith) (s-apart (c .before .before .before .before .before .before .before .before .before .before .before .before .before .before .before .before .before .before .before .pre .due) 0 (omega arith))
+keep-requires c κs =
+    let start = c .before .before .before .before .before .before .before .before .before .before .before .before .before .before .before .before .before .before .before in
+    let equations-told = c .before .before .before .before .before .before .before .before .before .before .before .before .before .equations .ensures in
+    let tails-equation-told = c .before .before .before .before .before .before .tails-equation .ensures in
+    let h = s-place (start .pre .due) in
+    neither-parts (start .pre .due) (start .pre .kind) (last-written (start .pre .due) (plain (start .pre .due) _ (s-place (start .pre .due)) (s-apart (start .pre .due) 1 (omega arith)) refl (rw (c .before .before .before .before .before .before .before .before .before .w .given .1) at equations-told)) (rw (c .before .before .v .given .1) at tails-equation-told)) _ (omega arith) (s-apart (start .pre .due) 0 (omega arith))
 
 enum-told : tie.Need-enum-told
 enum-told c = search needs
@@ -77,14 +103,19 @@ same-length c = search needs
 
 returns : tie.Need-returns
 unfolding further
-returns c = child-made (λ p D k. let h = s-place D in neither-made D k (last-written D (plain D _ (s-place D) (s-apart D 1 (omega arith)) refl (rw (c .before .before .before .before .before .before .before .before .before .before .before .before .w .given .1) at (c .before .before .before .before .before .before .before .before .before .before .before .before .before .before .before .before .equations .ensures))) (rw (c .before .before .before .before .before .v .given .1) at (c .before .before .before .before .before .before .before .before .before .tails-equation .ensures))) _ (omega arith) (s-apart D 0 (omega arith)) (c .before .before .keep .ensures))
+returns c =
+    let equations-told = c .before .before .before .before .before .before .before .before .before .before .before .before .before .before .before .before .equations .ensures in
+    let tails-equation-told = c .before .before .before .before .before .before .before .before .before .tails-equation .ensures in
+    child-made (λ p D k. let h = s-place D in neither-made D k (last-written D (plain D _ (s-place D) (s-apart D 1 (omega arith)) refl (rw (c .before .before .before .before .before .before .before .before .before .before .before .before .w .given .1) at equations-told)) (rw (c .before .before .before .before .before .v .given .1) at tails-equation-told)) _ (omega arith) (s-apart D 0 (omega arith)) (c .before .before .keep .ensures))
 
 same-length-2 : tie.Need-same-length-2
 same-length-2 c = search needs
 
 returns-2 : tie.Need-returns-2
 unfolding further of-sized
-returns-2 c = child-made (λ p D k. last-full D k (last-written D (plain D _ (s-place D) (s-apart D 1 (omega arith)) refl (rw (c .before .before .before .before .before .before .before .w .given .1) at (c .before .before .before .before .before .before .before .before .before .before .before .equations .ensures))) (rw (c .enum-told .given .1) at (c .before .before .before .before .tails-equation .ensures))))
+returns-2 c =
+    let equations-told = c .before .before .before .before .before .before .before .before .before .before .before .equations .ensures in
+    child-made (λ p D k. last-full D k (last-written D (plain D _ (s-place D) (s-apart D 1 (omega arith)) refl (rw (c .before .before .before .before .before .before .before .w .given .1) at equations-told)) (rw (c .enum-told .given .1) at (c .before .before .before .before .tails-equation .ensures))))
 
 same-length-3 : tie.Need-same-length-3
 same-length-3 c = search needs

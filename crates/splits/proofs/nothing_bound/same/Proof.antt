@@ -44,13 +44,20 @@ add-equations-2 : tie.Need-add-equations-2
 add-equations-2 c = search needs
 
 equations-requires : tie.Need-equations-requires
-equations-requires c κs = plain-parts (due-laid (c .before .before .before .before .before .before .before .before .before .pre .due) (c .before .before .before .before .lay-entry .ensures)) _ (s-place (due-laid (c .before .before .before .before .before .before .before .before .before .pre .due) (c .before .before .before .before .lay-entry .ensures))) (s-apart (due-laid (c .before .before .before .before .before .before .before .before .before .pre .due) (c .before .before .before .before .lay-entry .ensures)) 1 (omega arith))
+equations-requires c κs =
+    let start = c .before .before .before .before .before .before .before .before .before in
+    let lay-entry-told = c .before .before .before .before .lay-entry .ensures in
+    plain-parts (due-laid (start .pre .due) lay-entry-told) _ (s-place (due-laid (start .pre .due) lay-entry-told)) (s-apart (due-laid (start .pre .due) lay-entry-told) 1 (omega arith))
 
 enum-known-w : tie.Need-enum-known-w
 enum-known-w c = search needs
 
 keep-requires : tie.Need-keep-requires
-keep-requires c κs = keep-parts (due-laid (c .before .before .before .before .before .before .before .before .before .before .before .before .before .before .before .before .pre .due) (c .before .before .before .before .before .before .before .before .before .before .before .lay-entry .ensures)) (news (c .before .before .before .before .before .before .before .before .before .before .before .before .before .before .before .before .pre .p)) (plain (due-laid (c .before .before .before .before .before .before .before .before .before .before .before .before .before .before .before .before .pre .due) (c .before .before .before .before .before .before .before .before .before .before .before .lay-entry .ensures)) _ (s-place (due-laid (c .before .before .before .before .before .before .before .before .before .before .before .before .before .before .before .before .pre .due) (c .before .before .before .before .before .before .before .before .before .before .before .lay-entry .ensures))) (s-apart (due-laid (c .before .before .before .before .before .before .before .before .before .before .before .before .before .before .before .before .pre .due) (c .before .before .before .before .before .before .before .before .before .before .before .lay-entry .ensures)) 1 (omega arith)) refl (rw (c .before .before .w .given .1) at (c .before .before .before .before .before .before .equations .ensures))) (entry-within (c .before .before .before .before .before .before .before .before .before .before .before .before .before .before .before .before .pre .due) (c .before .before .before .before .before .before .before .before .before .before .before .lay-entry .ensures)) (entry-apart (c .before .before .before .before .before .before .before .before .before .before .before .before .before .before .before .before .pre .due) (c .before .before .before .before .before .before .before .before .before .before .before .lay-entry .ensures))
+keep-requires c κs =
+    let start = c .before .before .before .before .before .before .before .before .before .before .before .before .before .before .before .before in
+    let lay-entry-told = c .before .before .before .before .before .before .before .before .before .before .before .lay-entry .ensures in
+    let equations-told = c .before .before .before .before .before .before .equations .ensures in
+    keep-parts (due-laid (start .pre .due) lay-entry-told) (news (start .pre .p)) (plain (due-laid (start .pre .due) lay-entry-told) _ (s-place (due-laid (start .pre .due) lay-entry-told)) (s-apart (due-laid (start .pre .due) lay-entry-told) 1 (omega arith)) refl (rw (c .before .before .w .given .1) at equations-told)) (entry-within (start .pre .due) lay-entry-told) (entry-apart (start .pre .due) lay-entry-told)
 
 enum-told : tie.Need-enum-told
 enum-told c = search needs
@@ -59,14 +66,19 @@ same-length : tie.Need-same-length
 same-length c = search needs
 
 returns : tie.Need-returns
-returns c = child-made (λ p D k. same-made D (c .before .before .before .before .before .before .before .before .before .before .before .before .before .before .lay-entry .ensures) k (plain (due-laid D (c .before .before .before .before .before .before .before .before .before .before .before .before .before .before .lay-entry .ensures)) _ (s-place (due-laid D (c .before .before .before .before .before .before .before .before .before .before .before .before .before .before .lay-entry .ensures))) (s-apart (due-laid D (c .before .before .before .before .before .before .before .before .before .before .before .before .before .before .lay-entry .ensures)) 1 (omega arith)) refl (rw (c .before .before .before .before .before .w .given .1) at (c .before .before .before .before .before .before .before .before .before .equations .ensures))) (c .before .before .keep .ensures))
+returns c =
+    let lay-entry-told = c .before .before .before .before .before .before .before .before .before .before .before .before .before .before .lay-entry .ensures in
+    let equations-told = c .before .before .before .before .before .before .before .before .before .equations .ensures in
+    child-made (λ p D k. same-made D lay-entry-told k (plain (due-laid D lay-entry-told) _ (s-place (due-laid D lay-entry-told)) (s-apart (due-laid D lay-entry-told) 1 (omega arith)) refl (rw (c .before .before .before .before .before .w .given .1) at equations-told)) (c .before .before .keep .ensures))
 
 same-length-2 : tie.Need-same-length-2
 same-length-2 c = search needs
 
 returns-2 : tie.Need-returns-2
 unfolding of-sized
-returns-2 c = child-made (λ p D k. same-full D (c .before .before .before .before .before .before .before .before .before .lay-entry .ensures) k (plain (due-laid D (c .before .before .before .before .before .before .before .before .before .lay-entry .ensures)) _ (s-place (due-laid D (c .before .before .before .before .before .before .before .before .before .lay-entry .ensures))) (s-apart (due-laid D (c .before .before .before .before .before .before .before .before .before .lay-entry .ensures)) 1 (omega arith)) refl (rw (c .enum-told .given .1) at (c .before .before .before .before .equations .ensures))))
+returns-2 c =
+    let lay-entry-told = c .before .before .before .before .before .before .before .before .before .lay-entry .ensures in
+    child-made (λ p D k. same-full D lay-entry-told k (plain (due-laid D lay-entry-told) _ (s-place (due-laid D lay-entry-told)) (s-apart (due-laid D lay-entry-told) 1 (omega arith)) refl (rw (c .enum-told .given .1) at (c .before .before .before .before .equations .ensures))))
 
 pub same-spec : {M : Type 1} → statement M
 same-spec =

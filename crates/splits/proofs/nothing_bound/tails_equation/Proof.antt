@@ -31,7 +31,10 @@ add-copy-3 : tie.Need-add-copy-3
 add-copy-3 c = search needs
 
 copy-requires-2 : tie.Need-copy-requires-2
-copy-requires-2 c κs = r-parts (c .before .before .before .before .before .before .before .before .before .before .before .pre) (c .before .before .before .before .before .before .before .if1 .left) (c .before .before .before .before .copy .ensures)
+copy-requires-2 c κs =
+    let start = c .before .before .before .before .before .before .before .before .before .before .before in
+    let if1 = c .before .before .before .before .before .before .before .if1 .left in
+    r-parts (start .pre) if1 (c .before .before .before .before .copy .ensures)
 
 add-t9 : tie.Need-add-t9
 add-t9 c = search needs
@@ -40,7 +43,11 @@ same-length : tie.Need-same-length
 same-length c = search needs
 
 returns-2 : tie.Need-returns-2
-returns-2 c = tails-written (c .before .before .before .before .before .before .before .before .before .before .before .before .before .before .pre) (c .before .before .before .before .before .before .before .before .before .before .if1 .left) (c .before .before .before .before .before .before .before .copy .ensures) (c .before .before .copy2 .ensures)
+returns-2 c =
+    let start = c .before .before .before .before .before .before .before .before .before .before .before .before .before .before in
+    let if1 = c .before .before .before .before .before .before .before .before .before .before .if1 .left in
+    let copy-told = c .before .before .before .before .before .before .before .copy .ensures in
+    tails-written (start .pre) if1 copy-told (c .before .before .copy2 .ensures)
 
 pub tails-equation-spec : {M : Type 1} → statement M
 tails-equation-spec =

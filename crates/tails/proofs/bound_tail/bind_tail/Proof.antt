@@ -41,7 +41,10 @@ same-length-2 c = search needs
 
 returns-2 : tie.Need-returns-2
 unfolding seg
-returns-2 c = rw (c .of-sized .ensures) (record { makes = λ p name value B. tail-bound B (c .before .before .before .before .before .before .is-in .ensures) (c .before .before .before .before .before .if1 .left) (c .before .before .before .bound .ensures); kept = c .before .before .before .bound .ensures .kept })
+returns-2 c =
+    let is-in-told = c .before .before .before .before .before .before .is-in .ensures in
+    let bound-told = c .before .before .before .bound .ensures in
+    rw (c .of-sized .ensures) (record { makes = λ p name value B. tail-bound B is-in-told (c .before .before .before .before .before .if1 .left) bound-told; kept = bound-told .kept })
 
 pub bind-tail-spec : {M : Type 1} → statement M
 bind-tail-spec =

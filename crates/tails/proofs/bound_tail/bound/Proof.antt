@@ -27,7 +27,10 @@ enum-known-w : tie.Need-enum-known-w
 enum-known-w c = search needs
 
 finish-requires : tie.Need-finish-requires
-finish-requires c κs = finish-parts (c .before .before .before .before .before .before .before .before .before .before .pre .bound) (rw (c .before .before .w .given .1) at (c .before .before .before .before .before .before .equations .ensures))
+finish-requires c κs =
+    let start = c .before .before .before .before .before .before .before .before .before .before in
+    let equations-told = c .before .before .before .before .before .before .equations .ensures in
+    finish-parts (start .pre .bound) (rw (c .before .before .w .given .1) at equations-told)
 
 enum-told : tie.Need-enum-told
 enum-told c = search needs
@@ -36,14 +39,21 @@ same-length : tie.Need-same-length
 same-length c = search needs
 
 returns : tie.Need-returns
-returns c = record { makes = λ p name value B. bound-made B (rw (c .before .before .before .before .before .w .given .1) at (c .before .before .before .before .before .before .before .before .before .equations .ensures)) (c .before .before .finish .ensures); kept = row-elsewhere (c .before .before .before .before .before .before .before .before .before .before .before .before .before .pre .bound .target) (c .before .before .before .before .before .before .before .before .before .equations .ensures) (c .before .before .finish .ensures) }
+returns c =
+    let start = c .before .before .before .before .before .before .before .before .before .before .before .before .before in
+    let equations-told = c .before .before .before .before .before .before .before .before .before .equations .ensures in
+    let finish-told = c .before .before .finish .ensures in
+    record { makes = λ p name value B. bound-made B (rw (c .before .before .before .before .before .w .given .1) at equations-told) finish-told; kept = row-elsewhere (start .pre .bound .target) equations-told finish-told }
 
 same-length-2 : tie.Need-same-length-2
 same-length-2 c = search needs
 
 returns-2 : tie.Need-returns-2
 unfolding of-sized
-returns-2 c = record { makes = λ p name value B. bound-full B (rw (c .enum-told .given .1) at (c .before .before .before .before .equations .ensures)); kept = wrote-elsewhere (c .before .before .before .before .before .before .before .before .pre .bound .target) (c .before .before .before .before .equations .ensures) }
+returns-2 c =
+    let start = c .before .before .before .before .before .before .before .before in
+    let equations-told = c .before .before .before .before .equations .ensures in
+    record { makes = λ p name value B. bound-full B (rw (c .enum-told .given .1) at equations-told); kept = wrote-elsewhere (start .pre .bound .target) equations-told }
 
 pub bound-spec : {M : Type 1} → statement M
 bound-spec =

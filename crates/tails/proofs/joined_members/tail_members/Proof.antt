@@ -63,22 +63,52 @@ wide-requires-3 : tie.Need-wide-requires-3 Inv-loop μ-loop
 wide-requires-3 c κs = search needs
 
 add-copy : tie.Need-add-copy Inv-loop μ-loop
-add-copy c = let N = numbers (c .before .before .before .before .before .before .before .before .before .loop .inv) in let R = rising (c .before .before .before .before .before .before .before .before .before .loop .inv) (c .before .before .before .before .before .before .before .before .loop-test .taken) _ _ (c .before .before .before .wide2 .ensures) (c .before .wide3 .ensures) in omega arith
+add-copy c =
+    let invariant = c .before .before .before .before .before .before .before .before .before .loop .inv in
+    let loop-test = c .before .before .before .before .before .before .before .before .loop-test .taken in
+    let N = numbers invariant in
+    let R = rising invariant loop-test _ _ (c .before .before .before .wide2 .ensures) (c .before .wide3 .ensures) in
+    omega arith
 
 sub-copy : tie.Need-sub-copy Inv-loop μ-loop
-sub-copy c = let N = numbers (c .before .before .before .before .before .before .before .before .before .loop .inv) in let R = rising (c .before .before .before .before .before .before .before .before .before .loop .inv) (c .before .before .before .before .before .before .before .before .loop-test .taken) _ _ (c .before .before .before .wide2 .ensures) (c .before .wide3 .ensures) in omega arith
+sub-copy c =
+    let invariant = c .before .before .before .before .before .before .before .before .before .loop .inv in
+    let loop-test = c .before .before .before .before .before .before .before .before .loop-test .taken in
+    let N = numbers invariant in
+    let R = rising invariant loop-test _ _ (c .before .before .before .wide2 .ensures) (c .before .wide3 .ensures) in
+    omega arith
 
 add-copy-2 : tie.Need-add-copy-2 Inv-loop μ-loop
-add-copy-2 c = let N = numbers (c .before .before .before .before .before .before .before .before .before .loop .inv) in let R = rising (c .before .before .before .before .before .before .before .before .before .loop .inv) (c .before .before .before .before .before .before .before .before .loop-test .taken) _ _ (c .before .before .before .wide2 .ensures) (c .before .wide3 .ensures) in omega arith
+add-copy-2 c =
+    let invariant = c .before .before .before .before .before .before .before .before .before .loop .inv in
+    let loop-test = c .before .before .before .before .before .before .before .before .loop-test .taken in
+    let N = numbers invariant in
+    let R = rising invariant loop-test _ _ (c .before .before .before .wide2 .ensures) (c .before .wide3 .ensures) in
+    omega arith
 
 copy-requires : tie.Need-copy-requires Inv-loop μ-loop
-copy-requires c κs = copy-parts (c .before .before .before .before .before .before .before .before .before .loop .inv) (c .before .before .before .before .before .before .before .before .loop-test .taken) _ _ (c .before .before .before .wide2 .ensures) (c .before .wide3 .ensures)
+copy-requires c κs =
+    let invariant = c .before .before .before .before .before .before .before .before .before .loop .inv in
+    let loop-test = c .before .before .before .before .before .before .before .before .loop-test .taken in
+    copy-parts invariant loop-test _ _ (c .before .before .before .wide2 .ensures) (c .before .wide3 .ensures)
 
 sub-written : tie.Need-sub-written Inv-loop μ-loop
-sub-written c = let N = numbers (c .before .before .before .before .before .before .before .before .before .before .before .before .loop .inv) in let R = rising (c .before .before .before .before .before .before .before .before .before .before .before .before .loop .inv) (c .before .before .before .before .before .before .before .before .before .before .before .loop-test .taken) _ _ (c .before .before .before .before .before .before .wide2 .ensures) (c .before .before .before .before .wide3 .ensures) in omega arith
+sub-written c =
+    let invariant = c .before .before .before .before .before .before .before .before .before .before .before .before .loop .inv in
+    let loop-test = c .before .before .before .before .before .before .before .before .before .before .before .loop-test .taken in
+    let wide2-told = c .before .before .before .before .before .before .wide2 .ensures in
+    let N = numbers invariant in
+    let R = rising invariant loop-test _ _ wide2-told (c .before .before .before .before .wide3 .ensures) in
+    omega arith
 
 add-written : tie.Need-add-written Inv-loop μ-loop
-add-written c = let N = numbers (c .before .before .before .before .before .before .before .before .before .before .before .before .loop .inv) in let R = rising (c .before .before .before .before .before .before .before .before .before .before .before .before .loop .inv) (c .before .before .before .before .before .before .before .before .before .before .before .loop-test .taken) _ _ (c .before .before .before .before .before .before .wide2 .ensures) (c .before .before .before .before .wide3 .ensures) in omega arith
+add-written c =
+    let invariant = c .before .before .before .before .before .before .before .before .before .before .before .before .loop .inv in
+    let loop-test = c .before .before .before .before .before .before .before .before .before .before .before .loop-test .taken in
+    let wide2-told = c .before .before .before .before .before .before .wide2 .ensures in
+    let N = numbers invariant in
+    let R = rising invariant loop-test _ _ wide2-told (c .before .before .before .before .wide3 .ensures) in
+    omega arith
 
 add-i-2 : tie.Need-add-i-2 Inv-loop μ-loop
 add-i-2 c = let N = numbers (c .before .before .before .before .before .before .before .before .before .before .before .before .loop .inv) in omega arith
@@ -87,7 +117,13 @@ loop-less-2 : tie.Need-loop-less-2 Inv-loop μ-loop
 loop-less-2 c = let N = numbers (c .before .before .before .before .before .before .before .before .before .before .before .before .loop .inv) in omega arith
 
 loop-again-2 : tie.Need-loop-again-2 Inv-loop μ-loop
-loop-again-2 c = member-joined (c .before .before .before .before .before .before .before .before .before .before .before .before .loop .inv) (c .before .before .before .before .before .before .before .before .before .before .before .loop-test .taken) _ _ (c .before .before .before .before .before .before .wide2 .ensures) (c .before .before .before .before .wide3 .ensures) _ (c .before .before .before .before .before .before .before .before .before .wide .ensures) (c .before .before .before .before .before .before .before .before .if1 .left) (c .before .before .copy .ensures)
+loop-again-2 c =
+    let invariant = c .before .before .before .before .before .before .before .before .before .before .before .before .loop .inv in
+    let loop-test = c .before .before .before .before .before .before .before .before .before .before .before .loop-test .taken in
+    let wide-told = c .before .before .before .before .before .before .before .before .before .wide .ensures in
+    let if1 = c .before .before .before .before .before .before .before .before .if1 .left in
+    let wide2-told = c .before .before .before .before .before .before .wide2 .ensures in
+    member-joined invariant loop-test _ _ wide2-told (c .before .before .before .before .wide3 .ensures) _ wide-told if1 (c .before .before .copy .ensures)
 
 same-length : tie.Need-same-length Inv-loop μ-loop
 same-length c = let N = numbers (c .before .loop .inv) in omega arith

@@ -25,7 +25,10 @@ same-length : tie.Need-same-length
 same-length c = search needs
 
 returns : tie.Need-returns
-returns c = ((value-length (c .before .before .before .before .before .before .before .before .before .pre) _ (c .before .before .before .before .before .before .tail-members .ensures .0) (c .before .before .before .before .before .before .tail-members .ensures .1), value-short (c .before .before .before .before .before .before .before .before .before .pre) _ (c .before .before .before .before .before .before .tail-members .ensures .0) (c .before .before .before .before .before .before .tail-members .ensures .1)), value-put (c .before .before .before .before .before .before .before .before .before .pre) _ (c .before .before .before .before .before .before .tail-members .ensures .0) (c .before .before .before .before .before .before .tail-members .ensures .1) (c .before .before .copy .ensures))
+returns c =
+    let start = c .before .before .before .before .before .before .before .before .before in
+    let tail-members-told = c .before .before .before .before .before .before .tail-members .ensures in
+    ((value-length (start .pre) _ (tail-members-told .0) (tail-members-told .1), value-short (start .pre) _ (tail-members-told .0) (tail-members-told .1)), value-put (start .pre) _ (tail-members-told .0) (tail-members-told .1) (c .before .before .copy .ensures))
 
 pub lay-value-spec : {M : Type 1} → statement M
 lay-value-spec =

@@ -31,7 +31,11 @@ resolve-requires c κs = let i = c .before .before .loop .inv in resolvable (i .
 
 mul-if2 : tie.Need-mul-if2 Inv-loop μ-loop
 unfolding member-of
-mul-if2 c = let k = covering-opened (c .before .before .before .loop .inv) (c .before .if1 .taken) .member in let l = c .before .before .before .loop .inv .compared .comparing .classes .long in omega (arith, c .resolve .ensures)
+mul-if2 c =
+    let invariant = c .before .before .before .loop .inv in
+    let k = covering-opened invariant (c .before .if1 .taken) .member in
+    let l = invariant .compared .comparing .classes .long in
+    omega (arith, c .resolve .ensures)
 
 shared-slice-read-if2 : tie.Need-shared-slice-read-if2 Inv-loop μ-loop
 unfolding member-of
@@ -45,7 +49,9 @@ shared-slice-read-if2-2 c = let i = c .before .before .before .before .before .l
 
 returns : tie.Need-returns Inv-loop μ-loop
 unfolding member-of
-returns c = sym (covering-here (c .before .before .before .before .before .before .loop .inv) (c .before .before .before .before .if1 .taken) (rw (c .before .before .before .resolve .ensures) at (c .if2 .taken)))
+returns c =
+    let invariant = c .before .before .before .before .before .before .loop .inv in
+    sym (covering-here invariant (c .before .before .before .before .if1 .taken) (rw (c .before .before .before .resolve .ensures) at (c .if2 .taken)))
 
 rest-requires : tie.Need-rest-requires Inv-loop μ-loop
 rest-requires c κs = covering-at (c .before .before .before .before .before .before .loop .inv) (c .before .before .before .before .if1 .taken)
@@ -55,7 +61,9 @@ loop-less c = rw (c .rest .ensures) (rest-smaller (covering-opened (c .before .b
 
 loop-again : tie.Need-loop-again Inv-loop μ-loop
 unfolding member-of
-loop-again c = rw (c .rest .ensures) (covering-on (c .before .before .before .before .before .before .before .loop .inv) (c .before .before .before .before .before .if1 .taken) (λ e. c .before .if2 .left (rw (c .before .before .before .before .resolve .ensures) e)))
+loop-again c =
+    let invariant = c .before .before .before .before .before .before .before .loop .inv in
+    rw (c .rest .ensures) (covering-on invariant (c .before .before .before .before .before .if1 .taken) (λ e. c .before .if2 .left (rw (c .before .before .before .before .resolve .ensures) e)))
 
 returns-2 : tie.Need-returns-2 Inv-loop μ-loop
 returns-2 c = sym (covering-end (c .before .before .loop .inv) (c .if1 .left))

@@ -30,7 +30,9 @@ with-nodes-requires : tie.Need-with-nodes-requires
 with-nodes-requires c κs = search needs
 
 mul-note : tie.Need-mul-note
-mul-note c = omega (arith, place-small (c .before .before .before .before .before .before .before .before .pre .level-small) (c .before .before .before .before .before .before .before .before .pre .size-small))
+mul-note c =
+    let start = c .before .before .before .before .before .before .before .before in
+    omega (arith, place-small (start .pre .level-small) (start .pre .size-small))
 
 sub-note : tie.Need-sub-note
 sub-note c = search needs
@@ -39,10 +41,15 @@ part-note-start : tie.Need-part-note-start
 part-note-start c = search needs
 
 part-note-end : tie.Need-part-note-end
-part-note-end c = omega (arith, c .before .before .before .before .before .before .before .before .before .pre .within, ap length (c .before .before .before .before .set-number .ensures) ∙ length-put _ _ _)
+part-note-end c =
+    let start = c .before .before .before .before .before .before .before .before .before in
+    omega (arith, start .pre .within, ap length (c .before .before .before .before .set-number .ensures) ∙ length-put _ _ _)
 
 note-requires : tie.Need-note-requires
-note-requires c κs = note-asks (c .before .before .before .before .before .before .before .before .before .before .before .pre) _ (c .before .before .before .before .before .before .set-number .ensures) (c .before .before .before .with-nodes .ensures)
+note-requires c κs =
+    let start = c .before .before .before .before .before .before .before .before .before .before .before in
+    let set-number-told = c .before .before .before .before .before .before .set-number .ensures in
+    note-asks (start .pre) _ set-number-told (c .before .before .before .with-nodes .ensures)
 
 enum-known-noted : tie.Need-enum-known-noted
 enum-known-noted c = search needs

@@ -24,7 +24,9 @@ sub-if1 : tie.Need-sub-if1 Inv-loop μ-loop
 sub-if1 c = search needs
 
 returns : tie.Need-returns Inv-loop μ-loop
-returns c = sym (c .before .before .loop .inv .0 ∙ span-out edition-one _ (c .before .before .before .before .before .args .words .now) (c .before .before .loop .end) _ (c .before .before .loop .inv .1) (c .if1 .taken))
+returns c =
+    let start = c .before .before .before .before .before in
+    sym (c .before .before .loop .inv .0 ∙ span-out edition-one _ (start .args .words .now) (c .before .before .loop .end) _ (c .before .before .loop .inv .1) (c .if1 .taken))
 
 sub-due : tie.Need-sub-due Inv-loop μ-loop
 sub-due c = search needs
