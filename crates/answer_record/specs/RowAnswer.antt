@@ -12,7 +12,7 @@ use Rattle.room.specs.Layout.{HEADER}
 use Rattle.terms.specs.Bounds.{edition-one}
 use Rattle.terms.specs.Formed.{Equation, sides}
 use Rattle.terms.specs.Formed.{row as side-words}
-use Rattle.terms.specs.Flat.{size-positive}
+use Rattle.terms.specs.Laws.Flat.{size-positive}
 use Rattle.terms.specs.Answers.{answer-words}
 use Rattle.terms.specs.Lists.{cases}
 use Rattle.search.specs.State.{State, Entry, size-equations, size-entries, state-size}

@@ -14,7 +14,7 @@ use Rattle.terms.specs.Lists.{All, Any, none, both, here, there, all, all→, A
 use Rattle.terms.specs.Term.{Term, unknown, with, functor, words, members, over, count}
 use Rattle.terms.specs.Term as term
 use Rattle.terms.specs.Formed.{Formed, formed-unknown, formed-empty, formed-with, formed-functor, formed-none, formed-more, Ground, Question, Good, sides, row}
-use Rattle.terms.specs.Substitution.{formed-wider}
+use Rattle.terms.specs.Laws.Substitution.{formed-wider}
 use Rattle.terms.specs.Answers.{Binding, answer-words}
 use Rattle.laws.specs.Laws.{_≈_, ≈refl, ≈trans, In}
 use Rattle.laws.specs.Equal.{computing-equal}
@@ -23,7 +23,7 @@ use Rattle.laws.specs.Apart.{functor-parts}
 use Rattle.laws.specs.Values.{Values, value, in-order, GroundValues, Solves, solves-test, holds-test}
 use Rattle.laws.specs.ValuesPut.{value-below}
 use Rattle.laws.specs.Solving.{solves-agree, ground-in-order}
-use Rattle.terms.specs.FormedParts.{formed-over}
+use Rattle.terms.specs.Laws.FormedParts.{formed-over}
 use Rattle.search.specs.declared.ends.End.the-variants.{Done, Steps}
 use Rattle.search.specs.Run.{Loan, ran}
 use Rattle.search.specs.Specimens.{a, b, c, g, x0, set, arities, asks, lending, ample, computing}

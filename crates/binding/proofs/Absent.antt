@@ -13,7 +13,7 @@ use Rattle.replace.specs.declared.Copied.the-variants.{Done, Full}
 use Rattle.terms.specs.Bounds.{edition-one}
 use Rattle.rows.specs.declared.parts.Part.{Part}
 use Rattle.rows.specs.declared.parts.Part.the-variants.{Entries, Others}
-use Rattle.rows.specs.HeldWords.{holds, replaced-absent}
+use Rattle.rows.specs.Terms.HeldWords.{holds, replaced-absent}
 use Rattle.rows.specs.Pile.{selection, selection-nil, entries-absent, others-absent}
 use Rattle.rows.specs.Wrote.{Wrote, wrote-nothing, wrote-full, wrote-all}
 

@@ -13,9 +13,9 @@ use Rattle.replace.specs.Fitting.{fitting, told, further}
 use Rattle.replace.specs.declared.Copied.{Copied}
 use Rattle.replace.specs.declared.Copied.the-variants.{Done, Full}
 use Rattle.terms.specs.Bounds.{edition-one}
-use Rattle.terms.specs.Walk.{span-le}
+use Rattle.terms.specs.Laws.Walk.{span-le}
 use Rattle.rows.specs.declared.parts.Part.{Part}
-use Rattle.rows.specs.Ended.{term-end}
+use Rattle.rows.specs.Terms.Ended.{term-end}
 use Rattle.rows.specs.Pile.{wants, kept, selected, selection, selection-entry}
 use Rattle.rows.specs.Wrote.{Wrote, wrote-nothing, wrote-replaced, wrote-more, wrote-length, full-more, done-fits, done-length}
 

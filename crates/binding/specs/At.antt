@@ -17,7 +17,7 @@ use Rattle.terms.specs.Shape.{is-unknown}
 use Rattle.terms.specs.Formed.{Equation, Formed, sides, row}
 use mathlib.Core.Bool.{true, false}
 use Rattle.terms.specs.Answers.{Binding}
-use Rattle.terms.specs.Flat.{size-positive, length-words}
+use Rattle.terms.specs.Laws.Flat.{size-positive, length-words}
 use Rattle.search.specs.State.{State, pend, size-equations, size-bindings, state-size}
 use Rattle.search.specs.Classify.{classify}
 use Rattle.search.specs.StepView.{Sided, as-written, turned-round}
@@ -30,7 +30,7 @@ use Rattle.rows.specs.Row.{Holds, Rested, header-for}
 use Rattle.rows.specs.declared.first.Subject.{Subject}
 use Rattle.binding.specs.Child.{Stands}
 use Rattle.rows.specs.Stepping.{unknown-word}
-use Rattle.rows.specs.MemberWords.{head-word, head-words, head-unknown}
+use Rattle.rows.specs.Terms.MemberWords.{head-word, head-words, head-unknown}
 use Rattle.rows.specs.First.{first-in, subject-in, subject-by, rest-after, holds-rest, cut-sizes, middle, first-in-words}
 
 pub record Sound (arities : List ℕ) (st : State) : Type 0 where

@@ -18,7 +18,7 @@ use Rattle.terms.specs.Term.{Term, words, size}
 use Rattle.terms.specs.Formed.{Formed, row}
 use Rattle.checks.specs.Pushed.{pushed, formed-top, formed-drop}
 use Rattle.terms.specs.Reading.{top}
-use Rattle.terms.specs.Walk.{Stands, stands-empty, stands-member, stands-unknown, stands-functor, words-stand, past}
+use Rattle.terms.specs.Laws.Walk.{Stands, stands-empty, stands-member, stands-unknown, stands-functor, words-stand, past}
 use Rattle.terms.specs.declared.refusal.Cause.{Cause}
 use Rattle.terms.specs.declared.refusal.Cause.the-variants.{WordsStop, WordsUndeclared}
 use Rattle.terms.specs.declared.refusal.Checked.{Checked}

@@ -9,7 +9,7 @@ use Rattle.room.specs.Layout.{HEADER}
 use Rattle.terms.specs.Bounds.{edition-one, MEMBER}
 use Rattle.terms.specs.Term.{Term, with, words}
 use Rattle.terms.specs.Formed.{Equation}
-use Rattle.terms.specs.Flat.{size-positive}
+use Rattle.terms.specs.Laws.Flat.{size-positive}
 use Rattle.search.specs.State.{State, Entry, pend, size-equations}
 use Rattle.search.specs.Classify.{classify}
 use Rattle.search.specs.StepView.{Stepped, stepped, splits}

@@ -10,8 +10,8 @@ use Rattle.room.specs.Parts.{earlier, seg-put}
 use Rattle.room.specs.Layout.{HEADER, right-row}
 use Rattle.terms.specs.Bounds.{edition-one}
 use Rattle.terms.specs.Term.{Term, words, size, members}
-use Rattle.terms.specs.Flat.{length-words}
-use Rattle.rows.specs.Stripped.{kernel-place}
+use Rattle.terms.specs.Laws.Flat.{length-words}
+use Rattle.rows.specs.Terms.Stripped.{kernel-place}
 use Rattle.choices.specs.MemberPlaces.{places, noted, noted-words, NoteParts}
 use Rattle.choices.specs.GatheredPicks.{at-of, at-last, length-places}
 use Rattle.choices.specs.OpenParent.{few-members}

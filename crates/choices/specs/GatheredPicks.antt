@@ -13,11 +13,11 @@ use borrow.Author.Tests.{ltb-true}
 use Rattle.room.specs.Room.{seg, seg-cons, take-seg, drop-seg}
 use Rattle.terms.specs.Bounds.{Bounds, MEMBER}
 use Rattle.terms.specs.Term.{Term, unknown, empty, with, functor, words, size, members}
-use Rattle.terms.specs.Flat.{length-words}
+use Rattle.terms.specs.Laws.Flat.{length-words}
 use Rattle.terms.specs.Formed.{Equation, sides, row}
 use Rattle.terms.specs.Lists.{cases}
-use Rattle.rows.specs.Stripped.{kernel-place}
-use Rattle.rows.specs.MemberWords.{member-words}
+use Rattle.rows.specs.Terms.Stripped.{kernel-place}
+use Rattle.rows.specs.Terms.MemberWords.{member-words}
 use Rattle.search_laws.specs.Picking.{equations-by, joining-by}
 use Rattle.choices.specs.Gathered.{gathered, member-piece, marked-piece, joins-piece, meets-piece}
 use Rattle.choices.specs.MemberPlaces.{places}

@@ -10,7 +10,7 @@ use Rattle.terms.specs.Kind.{Worded}
 use Rattle.terms.specs.Term.{Term, words, size, members}
 use Rattle.terms.specs.Formed.{Formed}
 use Rattle.search.specs.RunLimits.{most-size}
-use Rattle.rows.specs.Stripped.{kernel-place}
+use Rattle.rows.specs.Terms.Stripped.{kernel-place}
 use Rattle.choices.specs.declared.sides.Sides.{Sides}
 use Rattle.choices.specs.MemberPlaces.{places}
 

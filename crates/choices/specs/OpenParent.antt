@@ -18,7 +18,7 @@ use Rattle.terms.specs.Formed.{Formed, Equation}
 use Rattle.search.specs.State.{State}
 use Rattle.search.specs.RunLimits.{most-size}
 use Rattle.rows.specs.declared.parts.Rest.{Rest}
-use Rattle.rows.specs.Stripped.{kernel-place}
+use Rattle.rows.specs.Terms.Stripped.{kernel-place}
 use Rattle.rows.specs.Row.{Rested}
 use Rattle.search_laws.specs.Picking.{equations-by, joining-by}
 use Rattle.choices.specs.declared.sides.Sides.{Sides}

@@ -12,7 +12,7 @@ use Rattle.terms.specs.Formed.{Formed, Formed*, formed-unknown, formed-empty, f
 use Rattle.terms.specs.Lists.{All, none, both, all, All-append, All-map}
 use Rattle.checks.specs.Pushed.{formed-top, formed-drop}
 use Rattle.terms.specs.Reading.{read, row-read, top}
-use Rattle.terms.specs.Substitution.{formed-wider}
+use Rattle.terms.specs.Laws.Substitution.{formed-wider}
 use Rattle.terms.specs.Term.{Term, Terms, empty, with, functor, more, words}
 use Rattle.laws.specs.Equal.{equal}
 use Rattle.laws.specs.Values.{Values, value, value*, in-order, holds-test, solves-test}

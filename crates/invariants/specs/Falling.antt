@@ -12,7 +12,7 @@ use native.Mathlib.Omega.{arith}
 use Rattle.terms.specs.Lists.{All, none as all-none, both, any, any→, →any, All-map, All-both, All-append, Any-left, cases}
 use Rattle.terms.specs.Term.{Term, unknown, with, size, size*, members, kernel, over, list, occurs, subst}
 use Rattle.terms.specs.Shape.{number, arguments}
-use Rattle.terms.specs.Flat.{size-positive}
+use Rattle.terms.specs.Laws.Flat.{size-positive}
 use Rattle.terms.specs.Formed.{Equation}
 use Rattle.terms.specs.Answers.{Binding}
 use Rattle.search.specs.declared.steps.Tails.{Tails}

@@ -10,7 +10,7 @@ use borrow.Author.Tests.{eq-eqb, ne-eqb}
 use native.Mathlib.Omega.{arith}
 use Rattle.terms.specs.Lists.{All, none as all-none, both, any, All-map, All-of-flatMap, cases, or-left, or-right, or-else}
 use Rattle.terms.specs.Term.{Term, unknown, members, over}
-use Rattle.terms.specs.Flat.{size-positive}
+use Rattle.terms.specs.Laws.Flat.{size-positive}
 use Rattle.terms.specs.Formed.{Equation}
 use Rattle.search.specs.State.{State, Node, Entry, pend, renewed}
 use Rattle.search.specs.Children.{others, kept, bound-state, joined, without, join, children-by, children}

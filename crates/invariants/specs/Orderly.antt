@@ -11,8 +11,8 @@ use Rattle.terms.specs.Lists.{All, Any, none as all-none, both, here, there, an
 use Rattle.terms.specs.Term.{Term, Terms, unknown, functor, members, kernel, over, list, occurs, subst}
 use Rattle.terms.specs.Formed.{Formed, formed-unknown, formed-functor, Equation}
 use Rattle.terms.specs.Answers.{Binding}
-use Rattle.terms.specs.FormedParts.{formed-members, formed-kernel, formed-over, formed-list, unknown-below}
-use Rattle.terms.specs.Substitution.{formed-wider, formed-subst}
+use Rattle.terms.specs.Laws.FormedParts.{formed-members, formed-kernel, formed-over, formed-list, unknown-below}
+use Rattle.terms.specs.Laws.Substitution.{formed-wider, formed-subst}
 use Rattle.terms.specs.Listing.{Bound}
 use Rattle.search.specs.State.{State, Entry, pend, piled, renewed}
 use Rattle.search.specs.Children.{replace-in, released, kept, bound-state}

@@ -7,7 +7,7 @@ use native.Mathlib.Omega.{arith}
 use native.Mathlib.Nat.{mul-le-mul-right, zero-add, suc-add, sub-add-cancel}
 use Rattle.terms.specs.Lists.{All, none as all-none, both, All-map}
 use Rattle.terms.specs.Term.{Term, Terms, unknown, empty, with, functor, none, more, size, size*, members, kernel, list}
-use Rattle.terms.specs.Flat.{size-positive}
+use Rattle.terms.specs.Laws.Flat.{size-positive}
 use Rattle.terms.specs.Formed.{Equation}
 
 -- grows faster than a split multiplies

@@ -14,7 +14,7 @@ use Rattle.laws.specs.Equal.{is-in}
 use Rattle.laws.specs.Agree.{apart, is-in-agree}
 use Rattle.laws.specs.Apart.{kernel-≈}
 use Rattle.laws.specs.Members.{members-over, kernel-over, over-append, rebuild, over-≈, same-members, absorbed, within-self, in-equal}
-use Rattle.terms.specs.FormedParts.{formed-members, formed-kernel, formed-over}
+use Rattle.terms.specs.Laws.FormedParts.{formed-members, formed-kernel, formed-over}
 
 -- those of ts that are members of r
 unfoldable pub those-in : Term → List Term → List Term

@@ -9,7 +9,7 @@ use lib.Seq.{drop-drop, drop-at, getD-drop}
 use borrow.Author.Tests.{lt-ltb}
 use Rattle.terms.specs.Answers.{Binding, binding-words, answer-words, listed}
 use Rattle.terms.specs.Bounds.{Bounds}
-use Rattle.terms.specs.Flat.{length-words}
+use Rattle.terms.specs.Laws.Flat.{length-words}
 use Rattle.terms.specs.Kind.{Worded}
 use Rattle.terms.specs.Listing.{Bound, list-words}
 use Rattle.terms.specs.Lists.{All, both}

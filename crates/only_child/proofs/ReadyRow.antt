@@ -8,7 +8,7 @@ use lib.ListN.{take, drop}
 use Rattle.room.specs.Room.{seg}
 use Rattle.room.specs.Layout.{HEADER, stride, aside-row}
 use Rattle.terms.specs.Formed.{Equation, row}
-use Rattle.terms.specs.Flat.{size-positive}
+use Rattle.terms.specs.Laws.Flat.{size-positive}
 use Rattle.search.specs.State.{State, pend, size-equations, state-size}
 use Rattle.search.specs.Classify.{classify}
 use Rattle.search.specs.Children.{children, children-by}

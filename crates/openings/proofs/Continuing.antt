@@ -11,8 +11,8 @@ use Rattle.room.specs.Room.{seg, getD-seg}
 use Rattle.room.specs.Layout.{HEADER, stride, right-row, picks-row}
 use Rattle.terms.specs.Bounds.{edition-one}
 use Rattle.terms.specs.Term.{Term, members, kernel, size, words}
-use Rattle.terms.specs.Flat.{size-positive, length-words}
-use Rattle.terms.specs.FormedParts.{formed-kernel}
+use Rattle.terms.specs.Laws.Flat.{size-positive, length-words}
+use Rattle.terms.specs.Laws.FormedParts.{formed-kernel}
 use Rattle.search.specs.State.{State}
 use Rattle.search.specs.Classify.{tails}
 use Rattle.search.specs.Children.{children}
@@ -22,10 +22,10 @@ use Rattle.binding.specs.At.{first-size}
 use Rattle.rows.specs.declared.parts.Rest.{Rest}
 use Rattle.rows.specs.declared.header.Header.{Header}
 use Rattle.rows.specs.First.{header-in, HeaderParts, rest-after}
-use Rattle.rows.specs.MemberWords.{member-words, head-word, head-kernel, words-members, length-members}
+use Rattle.rows.specs.Terms.MemberWords.{member-words, head-word, head-kernel, words-members, length-members}
 use Rattle.rows.specs.Row.{header-for}
 use Rattle.rows.specs.Stepping.{tails-of, tails-of-heads}
-use Rattle.rows.specs.Stripped.{kernel-place}
+use Rattle.rows.specs.Terms.Stripped.{kernel-place}
 use Rattle.search_laws.specs.Picking.{radix}
 use Rattle.choices.specs.declared.sides.Sides.{Sides}
 use Rattle.choices.specs.Digits.{copies, length-copies, length-digits, PickParts, Advanced}

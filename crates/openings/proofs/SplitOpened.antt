@@ -14,7 +14,7 @@ use Rattle.search.specs.Children.{children}
 use Rattle.search.specs.declared.steps.Tails.{Tails}
 use Rattle.rows.specs.declared.parts.Rest.{Rest}
 use Rattle.rows.specs.declared.parts.Reached.the-variants.{Live}
-use Rattle.rows.specs.Stripped.{kernel-place}
+use Rattle.rows.specs.Terms.Stripped.{kernel-place}
 use Rattle.search_laws.specs.ChoiceNumbers.{Digits}
 use Rattle.search_laws.specs.Picking.{radix}
 use Rattle.choices.specs.declared.sides.Sides.{Sides}

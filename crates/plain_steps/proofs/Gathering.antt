@@ -9,9 +9,9 @@ use borrow.Author.Tests.{eq-eqb, ne-eqb}
 use Rattle.room.specs.Room.{seg, put, length-put, length-seg, seg-zero, seg-cons, take-seg, drop-seg, put-nil}
 use Rattle.room.specs.Parts.{CopyParts, apart-part, getD-put, seg-put}
 use Rattle.terms.specs.Bounds.{edition-one, edition-one-proper}
-use Rattle.terms.specs.Walk.{span-le}
-use Rattle.rows.specs.Ended.{term-end}
-use Rattle.rows.specs.Stripped.{kernel-at}
+use Rattle.terms.specs.Laws.Walk.{span-le}
+use Rattle.rows.specs.Terms.Ended.{term-end}
+use Rattle.rows.specs.Terms.Stripped.{kernel-at}
 use Rattle.rows.specs.Pile.{kept}
 use Rattle.plain_steps.specs.Join.{gathered, gathered-entry, gathered-none, stripped-ended}
 use Rattle.binding.proofs.RestCopied.{put-after}

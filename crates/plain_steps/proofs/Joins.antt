@@ -12,7 +12,7 @@ use Rattle.rows.specs.declared.parts.Rest.{Rest}
 use Rattle.rows.specs.declared.parts.Made.{Made}
 use Rattle.rows.specs.declared.parts.Made.the-variants.{Dead, Names}
 use Rattle.rows.specs.Header.{header-of}
-use Rattle.rows.specs.HeldWords.{holds}
+use Rattle.rows.specs.Terms.HeldWords.{holds}
 use Rattle.rows.specs.Bind.{FinishParts, bound-pile, bound-bindings}
 use Rattle.rows.specs.Finished.{Finished, bound-header}
 use Rattle.plain_steps.specs.Join.{gathered, length-gathered}

@@ -9,12 +9,12 @@ use Rattle.room.specs.Room.{seg, put, Within, length-put, length-seg, put-nil, 
 use Rattle.room.specs.Parts.{Apart, CopyParts, apart-part, seg-put, seg-set}
 use Rattle.room.specs.Layout.{HEADER}
 use Rattle.terms.specs.Bounds.{edition-one, FIRST-UNKNOWN}
-use Rattle.terms.specs.Walk.{span-le}
+use Rattle.terms.specs.Laws.Walk.{span-le}
 use Rattle.rows.specs.declared.parts.Rest.{Rest}
 use Rattle.rows.specs.declared.first.Subject.{Subject}
 use Rattle.rows.specs.Bind.{FinishParts}
 use Rattle.rows.specs.Finished.{finish-long}
-use Rattle.rows.specs.Ended.{term-end}
+use Rattle.rows.specs.Terms.Ended.{term-end}
 use Rattle.plain_steps.specs.StepParts.{postponed, PostponeParts, PairParts, DecomposeParts, paired, length-paired, decomposed}
 use Rattle.binding.proofs.RestCopied.{put-after}
 

@@ -12,8 +12,8 @@ use Rattle.terms.specs.Bounds.{Bounds, edition-one, FIRST-UNKNOWN}
 use Rattle.terms.specs.Kind.{Worded}
 use Rattle.terms.specs.Term.{Terms, functor, words, words*, size, size*, list, count}
 use Rattle.terms.specs.Formed.{Equation, Formed, Formed*, formed-functor, formed-none, formed-more, row, sides}
-use Rattle.terms.specs.Flat.{length-words}
-use Rattle.terms.specs.Walk.{term-ends}
+use Rattle.terms.specs.Laws.Flat.{length-words}
+use Rattle.terms.specs.Laws.Walk.{term-ends}
 use Rattle.search.specs.State.{State, live, pend}
 use Rattle.search.specs.Children.{pairwise}
 use Rattle.search.specs.StateWords.{pending-words, pile-words}

@@ -14,15 +14,15 @@ use Rattle.terms.specs.Kind.{takes, takes-member, Worded}
 use Rattle.terms.specs.Lists.{All, none, both, cases}
 use Rattle.terms.specs.Term.{words, size, members, kernel}
 use Rattle.terms.specs.Formed.{Formed}
-use Rattle.terms.specs.Flat.{length-words, eqb-shift}
-use Rattle.terms.specs.Walk.{span, span-le, term-ends}
+use Rattle.terms.specs.Laws.Flat.{length-words, eqb-shift}
+use Rattle.terms.specs.Laws.Walk.{span, span-le, term-ends}
 use Rattle.search.specs.State.{Entry}
 use Rattle.search.specs.Children.{entries, joined}
 use Rattle.search.specs.StateWords.{pile-words}
-use Rattle.rows.specs.Ended.{term-end}
-use Rattle.rows.specs.Stripped.{stripped, kernel-at, kernel-at-words, kernel-place}
+use Rattle.rows.specs.Terms.Ended.{term-end}
+use Rattle.rows.specs.Terms.Stripped.{stripped, kernel-at, kernel-at-words, kernel-place}
 use Rattle.rows.specs.Pile.{kept}
-use Rattle.rows.specs.MemberWords.{member-words, members-append, take-members, length-members, words-members}
+use Rattle.rows.specs.Terms.MemberWords.{member-words, members-append, take-members, length-members, words-members}
 
 -- at most so many entries are read
 unfoldable pub gathered : Bounds → List ℕ → ℕ → ℕ → List ℕ → List ℕ

@@ -14,7 +14,7 @@ use Rattle.room.specs.Layout.{stride}
 use Rattle.terms.specs.Bounds.{edition-one, edition-one-proper, edition-one-unknowns-first, FIRST-UNKNOWN, PATH-UNKNOWNS}
 use Rattle.terms.specs.Lists.{All, both, any, cases}
 use Rattle.terms.specs.Term.{Term, unknown, words, size, occurs, over}
-use Rattle.terms.specs.Substitution.{occurs-over}
+use Rattle.terms.specs.Laws.Substitution.{occurs-over}
 use Rattle.search.specs.State.{State, Node, dead, live, Entry, pend, renewed, size-equations, size-entries, state-size}
 use Rattle.search.specs.Children.{bound-state, bound, joined, without}
 use Rattle.search.specs.PileEntries.{entries-others, others-others}
@@ -24,9 +24,9 @@ use Rattle.rows.specs.declared.parts.Made.{Made}
 use Rattle.rows.specs.declared.parts.Made.the-variants.{Dead, Names, Live}
 use Rattle.rows.specs.Sections.{sections-fit}
 use Rattle.rows.specs.Bind.{FinishParts}
-use Rattle.rows.specs.HeldWords.{holds}
+use Rattle.rows.specs.Terms.HeldWords.{holds}
 use Rattle.rows.specs.Finished.{finish-long}
-use Rattle.rows.specs.MemberWords.{member-words, words-over, holds-members}
+use Rattle.rows.specs.Terms.MemberWords.{member-words, words-over, holds-members}
 use Rattle.plain_steps.specs.Join.{gathered-pile, length-gathered}
 use Rattle.plain_steps.specs.JoinLaid.{JoinParts, joining-word, joining-words, valued, Joined}
 use Rattle.rows.specs.Row.{Rested, Makes, Beside, beside-same, beside-aside, finished-beside, header-for, becomes}

@@ -13,7 +13,7 @@ use Rattle.terms.specs.Kind.{takes, takes-functor}
 use Rattle.terms.specs.Term.{Term, Terms, functor, words, size, occurs, list}
 use Rattle.terms.specs.Formed.{Equation, Formed, formed-unknown, formed-functor}
 use Rattle.terms.specs.Shape.{arguments}
-use Rattle.terms.specs.Flat.{size-positive}
+use Rattle.terms.specs.Laws.Flat.{size-positive}
 use Rattle.search.specs.State.{State, Node, live, dead, pend, piled}
 use Rattle.search.specs.Classify.{classify}
 use Rattle.search.specs.Children.{bound, bound-state, pairwise}

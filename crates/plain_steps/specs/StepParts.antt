@@ -12,7 +12,7 @@ use Rattle.terms.specs.Bounds.{Bounds, FIRST-UNKNOWN}
 use Rattle.rows.specs.declared.parts.Rest.{Rest}
 use Rattle.rows.specs.declared.first.Subject.{Subject}
 use Rattle.rows.specs.Bind.{FinishParts}
-use Rattle.rows.specs.Ended.{term-end}
+use Rattle.rows.specs.Terms.Ended.{term-end}
 
 unfoldable pub postponed : List ℕ → Subject → ℕ → List ℕ
 postponed r s entry = put r entry (s .x ∷ seg r (s .by) (s .m))

@@ -5,7 +5,7 @@ ghost use lib.ListN.{length};
 ghost use Prim.Native.Nat.{_+_};
 ghost use Rattle.room.specs.Room.{seg, put};
 ghost use Rattle.terms.specs.Bounds.{edition-one};
-ghost use Rattle.rows.specs.Ended.{term-end};
+ghost use Rattle.rows.specs.Terms.Ended.{term-end};
 ghost use Rattle.rows.specs.Header.{header-of};
 ghost use Rattle.binding.specs.Keep.{kept-piece, kept-header};
 ghost use Rattle.rows.specs.Made.{of-sized};

@@ -15,11 +15,11 @@ use Rattle.terms.specs.Formed.{Formed, row, Question, Good}
 use Rattle.terms.specs.Answers.{listed}
 use Rattle.terms.specs.Kind.{kind, takes, Worded}
 use Rattle.terms.specs.Kind as kinds
-use Rattle.terms.specs.Flat as flat
+use Rattle.terms.specs.Laws.Flat as flat
 use Rattle.terms.specs.Reading.{read}
 use Rattle.terms.specs.Reading as reading
-use Rattle.terms.specs.Walk.{span}
-use Rattle.terms.specs.Walk as walk
+use Rattle.terms.specs.Laws.Walk.{span}
+use Rattle.terms.specs.Laws.Walk as walk
 use Rattle.terms.specs.declared.kind.Kind.the-variants.{Unknown, Functor}
 use Rattle.laws.specs.Values.{Values, GroundValues, Solves}
 use Rattle.search.specs.declared.ends.End.the-variants.{Done, Names}

@@ -8,11 +8,11 @@ use lib.ListN.{length, take, drop, getD, length-drop}
 use lib.Seq.{length-take-le, take-length}
 use Rattle.terms.specs.Bounds.{edition-one, FIRST-UNKNOWN, UNKNOWN-WORDS}
 use Rattle.terms.specs.Kind.{within}
-use Rattle.terms.specs.Walk.{span-le}
+use Rattle.terms.specs.Laws.Walk.{span-le}
 use Rattle.search.specs.declared.steps.Step.{Step}
 use Rattle.rows.specs.declared.first.First.{First}
 use Rattle.rows.specs.declared.first.Subject.{Subject}
-use Rattle.rows.specs.Ended.{term-end}
+use Rattle.rows.specs.Terms.Ended.{term-end}
 use Rattle.rows.specs.Stepping.{unknown-word, step-of}
 use Rattle.rows.specs.First.{first-in, subject-by, subject-in}
 

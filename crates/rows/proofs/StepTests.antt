@@ -14,7 +14,7 @@ use Rattle.search.specs.declared.steps.Tails.{Tails}
 use Rattle.search.specs.declared.steps.Tails.the-variants.{Different}
 use Rattle.search.specs.declared.steps.Step.the-variants.{Drop, Bind, Postpone, Decompose, Split, Dead}
 use Rattle.search.specs.Classify.{tails-by}
-use Rattle.rows.specs.HeldWords.{holds, absent-in-rest}
+use Rattle.rows.specs.Terms.HeldWords.{holds, absent-in-rest}
 use Rattle.rows.specs.Stepping.{unknown-word, tails-of, kernel-word, meet-where, meet-words, compare-words, step-by, step-of}
 
 pub tails-told : (l r : ℕ) {a c d : Bool} → within FIRST-UNKNOWN UNKNOWN-WORDS l ≡ a → within FIRST-UNKNOWN UNKNOWN-WORDS r ≡ c → eqb l r ≡ d → tails-by a c d ≡ tails-of edition-one l r

@@ -8,7 +8,7 @@ use lib.ListN.{length, getD, drop, drop-of-length-le}
 use lib.Seq.{drop-cons}
 use borrow.Author.Tests.{eq-eqb, ne-eqb}
 use Rattle.terms.specs.Lists.{any}
-use Rattle.rows.specs.HeldWords.{holds}
+use Rattle.rows.specs.Terms.HeldWords.{holds}
 
 module _ (x : ℕ) (ws : List ℕ) (i : ℕ) where
   module _ (h : i < length ws) where

@@ -14,8 +14,8 @@ use Rattle.terms.specs.Kind.{Worded}
 use Rattle.terms.specs.Term.{Term, words, size}
 use Rattle.terms.specs.Formed.{Equation, Formed}
 use Rattle.terms.specs.Answers.{binding-words}
-use Rattle.terms.specs.Flat.{length-words}
-use Rattle.terms.specs.Walk.{term-ends}
+use Rattle.terms.specs.Laws.Flat.{length-words}
+use Rattle.terms.specs.Laws.Walk.{term-ends}
 use Rattle.search.specs.State.{State, pend, size-equations, size-entries, size-bindings, state-size}
 use Rattle.search.specs.Classify.{classify}
 use Rattle.search.specs.StateWords.{pending-words, pile-words, state-words, length-pending, length-pile, length-bindings}
@@ -23,7 +23,7 @@ use Rattle.rows.specs.declared.parts.Rest.{Rest}
 use Rattle.rows.specs.declared.first.First.{First}
 use Rattle.rows.specs.declared.first.Subject.{Subject}
 use Rattle.rows.specs.declared.header.Header.{Header}
-use Rattle.rows.specs.Ended.{term-end}
+use Rattle.rows.specs.Terms.Ended.{term-end}
 use Rattle.rows.specs.Stepping.{unknown-word, step-of, step-of-words}
 use Rattle.rows.specs.States.{pending-append}
 use Rattle.rows.specs.Row.{Holds, Rested, header-for, header-words}

@@ -1,7 +1,4 @@
 pub mod Made
-pub mod Ended
-pub mod Stripped
-pub mod HeldWords
 pub mod Wrote
 pub mod Header
 pub mod Sections
@@ -10,6 +7,6 @@ pub mod Bind
 pub mod Finished
 pub mod States
 pub mod Row
-pub mod MemberWords
 pub mod Stepping
 pub mod First
+pub mod Terms

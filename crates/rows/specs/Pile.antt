@@ -12,15 +12,15 @@ use Rattle.terms.specs.Kind.{takes, Worded}
 use Rattle.terms.specs.Term.{words, size}
 use Rattle.terms.specs.Formed.{Formed}
 use Rattle.terms.specs.Lists.{All, none, both, any, or-neither, cases}
-use Rattle.terms.specs.Flat.{length-words, eqb-shift}
-use Rattle.terms.specs.Walk.{span, term-ends}
+use Rattle.terms.specs.Laws.Flat.{length-words, eqb-shift}
+use Rattle.terms.specs.Laws.Walk.{span, term-ends}
 use Rattle.search.specs.State.{Entry}
 use Rattle.search.specs.Children.{entries, others}
 use Rattle.search.specs.StateWords.{pile-words}
 use Rattle.rows.specs.declared.parts.Part.{Part}
 use Rattle.rows.specs.declared.parts.Part.the-variants.{Entries, Others}
-use Rattle.rows.specs.HeldWords.{holds}
-use Rattle.rows.specs.Ended.{term-end}
+use Rattle.rows.specs.Terms.HeldWords.{holds}
+use Rattle.rows.specs.Terms.Ended.{term-end}
 
 -- is the entry of an unknown wanted?
 unfoldable pub wants : Part → ℕ → ℕ → Bool

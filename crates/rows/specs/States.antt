@@ -14,7 +14,7 @@ use Rattle.terms.specs.Lists.{cases}
 use Rattle.search.specs.State.{State, Entry}
 use Rattle.search.specs.Children.{replace-in, entries, others, released, kept, bound-state}
 use Rattle.search.specs.StateWords.{pending-words, pile-words, Section, Pending, Pile, Bindings, in-order, section-words, state-words}
-use Rattle.rows.specs.HeldWords.{replaced-words}
+use Rattle.rows.specs.Terms.HeldWords.{replaced-words}
 
 -- ---- joined
 

@@ -8,14 +8,14 @@ use lib.Dec.{eqb}
 use lib.ListN.{getD}
 use borrow.Author.Tests.{eq-eqb, ne-eqb, eqb-true, eqb-false}
 use Rattle.terms.specs.Bounds.{Bounds, EMPTY, MEMBER}
-use Rattle.terms.specs.Flat.{eqb-shift}
+use Rattle.terms.specs.Laws.Flat.{eqb-shift}
 use Rattle.terms.specs.Kind.{within, Worded}
 use Rattle.terms.specs.Lists.{any, cases}
 use Rattle.terms.specs.Term.{Term, unknown, words, members, kernel, occurs}
 use Rattle.terms.specs.Shape.{is-unknown, number}
 use Rattle.terms.specs.Formed.{Formed, formed-unknown, formed-empty, formed-with, formed-functor}
-use Rattle.terms.specs.FormedParts.{formed-kernel}
-use Rattle.terms.specs.Flat.{eqb-shift}
+use Rattle.terms.specs.Laws.FormedParts.{formed-kernel}
+use Rattle.terms.specs.Laws.Flat.{eqb-shift}
 use Rattle.walks.specs.declared.occurrence.Occurrence.{Occurrence}
 use Rattle.walks.specs.declared.occurrence.Occurrence.the-variants.{Absent, Tail, Inside}
 use Rattle.walks.specs.Occurrence.{in-rest, in-rest-occurrence, occurrence-by}
@@ -24,8 +24,8 @@ use Rattle.search.specs.declared.steps.Tails.the-variants.{Different}
 use Rattle.search.specs.declared.steps.Step.{Step}
 use Rattle.search.specs.declared.steps.Step.the-variants.{Drop, Bind, Postpone, Decompose, Split, Dead}
 use Rattle.search.specs.Classify.{tails-by, tails, only-tail, meet-by, meet, classify}
-use Rattle.rows.specs.Stripped.{kernel-at, kernel-at-words, kernel-place}
-use Rattle.rows.specs.MemberWords.{head-word, head-words, head-kernel, head-unknown}
+use Rattle.rows.specs.Terms.Stripped.{kernel-at, kernel-at-words, kernel-place}
+use Rattle.rows.specs.Terms.MemberWords.{head-word, head-words, head-kernel, head-unknown}
 
 unfoldable pub unknown-word : Bounds → ℕ → Bool
 unknown-word b w = within (b .first-unknown) (b .unknown-words) w

@@ -4,9 +4,9 @@ ghost use Prim.Native.Nat.{_<_, _^_};
 ghost use lib.ListN.{length};
 ghost use Rattle.terms.specs.Bounds.{edition-one};
 ghost use Rattle.terms.specs.Kind.{takes};
-ghost use Rattle.rows.specs.Ended.{term-end};
-ghost use Rattle.rows.specs.Stripped.{kernel-at};
-ghost use Rattle.rows.specs.HeldWords.{holds};
+ghost use Rattle.rows.specs.Terms.Ended.{term-end};
+ghost use Rattle.rows.specs.Terms.Stripped.{kernel-at};
+ghost use Rattle.rows.specs.Terms.HeldWords.{holds};
 use terms::bounds::MEMBER;
 
 pub fn wide(word: u16) -> usize

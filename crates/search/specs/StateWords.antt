@@ -9,7 +9,7 @@ use Rattle.terms.specs.Bounds.{Bounds}
 use Rattle.terms.specs.Term.{words}
 use Rattle.terms.specs.Formed.{Equation, sides, row}
 use Rattle.terms.specs.Answers.{Binding, binding-words}
-use Rattle.terms.specs.Flat.{length-words}
+use Rattle.terms.specs.Laws.Flat.{length-words}
 use Rattle.search.specs.State.{State, Entry, size-equations, size-entries, size-bindings, state-size}
 
 unfoldable pub pending-words : Bounds → List Equation → List ℕ

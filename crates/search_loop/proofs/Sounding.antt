@@ -6,7 +6,7 @@ use Rattle.checks.specs.Lent.{Table}
 use Rattle.terms.specs.Lists.{All, none, both, All-map}
 use Rattle.terms.specs.Formed.{Formed, Equation, sides}
 use Rattle.terms.specs.Answers.{Binding}
-use Rattle.terms.specs.FormedParts.{unknown-below}
+use Rattle.terms.specs.Laws.FormedParts.{unknown-below}
 use Rattle.search.specs.State.{State}
 use Rattle.invariants.specs.Orderly.{Orderly, Usable-sides}
 use Rattle.binding.specs.At.{Sound}

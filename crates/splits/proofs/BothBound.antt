@@ -16,7 +16,7 @@ use Rattle.replace.specs.declared.Copied.the-variants.{Done, Full}
 use Rattle.terms.specs.Bounds.{edition-one, edition-one-unknowns-first, PATH-UNKNOWNS, FIRST-UNKNOWN}
 use Rattle.terms.specs.Lists.{any, cond-or}
 use Rattle.terms.specs.Term.{Term, unknown, words, kernel, occurs, over, subst}
-use Rattle.terms.specs.Flat.{length-words}
+use Rattle.terms.specs.Laws.Flat.{length-words}
 use Rattle.rows.specs.declared.parts.Rest.{Rest}
 use Rattle.rows.specs.declared.parts.Made.{Made}
 use Rattle.rows.specs.declared.parts.Made.the-variants.{Dead, Names, Large}
@@ -25,11 +25,11 @@ use Rattle.search.specs.Children.{bound-state, bound, then-bound, settle}
 use Rattle.search.specs.declared.steps.Tails.the-variants.{Different}
 use Rattle.search.specs.Classify.{tails-by, tails}
 use Rattle.terms.specs.Shape.{is-unknown, number}
-use Rattle.terms.specs.Substitution.{occurs-over}
+use Rattle.terms.specs.Laws.Substitution.{occurs-over}
 use Rattle.rows.specs.Row.{Makes}
 use Rattle.binding.specs.Child.{ahead}
-use Rattle.rows.specs.HeldWords.{holds}
-use Rattle.rows.specs.MemberWords.{member-words, holds-members}
+use Rattle.rows.specs.Terms.HeldWords.{holds}
+use Rattle.rows.specs.Terms.MemberWords.{member-words, holds-members}
 use Rattle.room.specs.Parts.{earlier}
 use Rattle.choices.specs.declared.sides.Sides.{Sides}
 use Rattle.splits.specs.declared.different.Joined.{Joined}

@@ -16,7 +16,7 @@ use Rattle.terms.specs.Shape.{is-unknown, number, unknown-number}
 use Rattle.search.specs.State.{State, live, pend, piled}
 use Rattle.search.specs.Children.{settle, pile-up}
 use Rattle.rows.specs.declared.parts.Rest.{Rest}
-use Rattle.rows.specs.MemberWords.{member-words, members-append, words-over}
+use Rattle.rows.specs.Terms.MemberWords.{member-words, members-append, words-over}
 use Rattle.binding.specs.Child.{extended}
 use Rattle.terms.specs.Formed.{Equation}
 use Rattle.search.specs.declared.steps.Tails.the-variants.{Same}

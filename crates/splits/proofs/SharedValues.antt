@@ -13,8 +13,8 @@ use Rattle.replace.specs.Fitting.{fitting, told}
 use Rattle.replace.specs.declared.Copied.{Copied}
 use Rattle.terms.specs.Bounds.{edition-one, edition-one-unknowns-first, FIRST-UNKNOWN}
 use Rattle.terms.specs.Term.{Term, unknown, words, over}
-use Rattle.rows.specs.HeldWords.{replaced-words}
-use Rattle.rows.specs.MemberWords.{member-words, words-over}
+use Rattle.rows.specs.Terms.HeldWords.{replaced-words}
+use Rattle.rows.specs.Terms.MemberWords.{member-words, words-over}
 use Rattle.rows.specs.Wrote.{Wrote, wrote-replaced, done-fits, done-length, done-room}
 use Rattle.splits.specs.declared.different.Joined.{Joined}
 use Rattle.choices.specs.OpenParent.{Parent, to-left, to-right}

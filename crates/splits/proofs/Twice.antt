@@ -16,8 +16,8 @@ use Rattle.terms.specs.Lists.{All, both, All-map, All-of-map, cases, none}
 use Rattle.terms.specs.Term.{Term, members}
 use Rattle.terms.specs.Formed.{Formed, formed-unknown}
 use Rattle.terms.specs.Formed.{Equation}
-use Rattle.terms.specs.Substitution.{formed-wider, formed-subst}
-use Rattle.terms.specs.FormedParts.{formed-members, formed-over}
+use Rattle.terms.specs.Laws.Substitution.{formed-wider, formed-subst}
+use Rattle.terms.specs.Laws.FormedParts.{formed-members, formed-over}
 use Rattle.search.specs.State.{State, live, state-size}
 use Rattle.search.specs.Children.{bound-state, kept, others}
 use Rattle.search.specs.PileEntries.{All-others}

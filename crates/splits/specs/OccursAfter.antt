@@ -12,7 +12,7 @@ use Rattle.terms.specs.Bounds.{edition-one, edition-one-unknowns-first, FIRST-U
 use Rattle.terms.specs.Lists.{cases}
 use Rattle.terms.specs.Term.{Term, Terms, unknown, empty, with, functor, none, more, words, size, occurs, occurs*, subst, subst*}
 use Rattle.terms.specs.Answers.{binding-words}
-use Rattle.terms.specs.Flat.{length-words, size-positive}
+use Rattle.terms.specs.Laws.Flat.{length-words, size-positive}
 use Rattle.search.specs.State.{State, Entry, size-entries, state-size}
 use Rattle.search.specs.Children.{entries, others, bound-state}
 use Rattle.search.specs.StateWords.{pending-words, pile-words, state-words, length-state, length-pending, length-pile, length-bindings}

@@ -16,7 +16,7 @@ use Rattle.search.specs.Children.{bound-state}
 use Rattle.search.specs.RunLimits.{most-size}
 use Rattle.rows.specs.declared.parts.Rest.{Rest}
 use Rattle.rows.specs.declared.parts.Made.{Made}
-use Rattle.rows.specs.MemberWords.{member-words}
+use Rattle.rows.specs.Terms.MemberWords.{member-words}
 use Rattle.rows.specs.Row.{Fresh, Makes}
 use Rattle.binding.specs.Child.{Stands, ahead}
 use Rattle.replace.specs.Fitting.{told}

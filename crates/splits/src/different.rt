@@ -1,7 +1,7 @@
 // A child of a split whose tails are different unknowns: s is bound to {U|N}, then r to {T|N}, with N new.
 ghost use mathlib.Core.Path.{_≡_};
 ghost use mathlib.Core.Bool.{_||_, _&&_};
-ghost use Rattle.rows.specs.HeldWords.{holds};
+ghost use Rattle.rows.specs.Terms.HeldWords.{holds};
 ghost use Rattle.rows.specs.Made.{of-sized};
 ghost use Rattle.splits.specs.KeptTails.{EntryParts};
 ghost use Rattle.splits.specs.Shared.{JoinedLaid, ShareParts, ShareMade, AgainParts, AgainMade, TwiceParts, TwiceMade, RenewParts, RenewMade};

@@ -21,7 +21,7 @@ use Rattle.rows.specs.declared.parts.Rest.{Rest}
 use Rattle.rows.specs.declared.parts.Made.{Made}
 use Rattle.rows.specs.declared.parts.Made.the-variants.{Dead, Large}
 use Rattle.rows.specs.Bind.{FinishParts, bound-pending, bound-pile, bound-body}
-use Rattle.rows.specs.HeldWords.{holds, holds-words}
+use Rattle.rows.specs.Terms.HeldWords.{holds, holds-words}
 use Rattle.rows.specs.Header.{header-of}
 use Rattle.rows.specs.Finished.{Finished, bound-header}
 use Rattle.rows.specs.Wrote.{Wrote, wrote-length, done-fits, done-length, done-room}

@@ -12,11 +12,11 @@ use Rattle.room.specs.Layout.{HEADER, stride, right-row, picks-row}
 use Rattle.terms.specs.Bounds.{edition-one, PATH-UNKNOWNS}
 use Rattle.terms.specs.Term.{words, size, members, kernel}
 use Rattle.terms.specs.Shape.{is-unknown}
-use Rattle.terms.specs.Flat.{length-words}
+use Rattle.terms.specs.Laws.Flat.{length-words}
 use Rattle.search.specs.RunLimits.{most-size}
 use Rattle.rows.specs.declared.parts.Rest.{Rest}
-use Rattle.rows.specs.Stripped.{kernel-place}
-use Rattle.rows.specs.MemberWords.{member-words, words-members, length-members}
+use Rattle.rows.specs.Terms.Stripped.{kernel-place}
+use Rattle.rows.specs.Terms.MemberWords.{member-words, words-members, length-members}
 use Rattle.rows.specs.States.{pending-append}
 use Rattle.search_laws.specs.Picking.{equations-by}
 use Rattle.choices.specs.declared.sides.Sides.{Sides}

@@ -12,7 +12,7 @@ use Rattle.room.specs.Layout.{HEADER, right-row, picks-row, value-row}
 use Rattle.terms.specs.Bounds.{edition-one, FIRST-UNKNOWN}
 use Rattle.terms.specs.Term.{Term, words, members, kernel, over}
 use Rattle.terms.specs.Shape.{is-unknown, number, unknown-number}
-use Rattle.terms.specs.FormedParts.{unknown-below, formed-kernel}
+use Rattle.terms.specs.Laws.FormedParts.{unknown-below, formed-kernel}
 use Rattle.search.specs.declared.steps.Tails.{Tails}
 use Rattle.search.specs.declared.steps.Tails.the-variants.{Left, Right}
 use Rattle.search.specs.State.{State, pend}
@@ -20,7 +20,7 @@ use Rattle.search.specs.Classify.{tails-by, tails}
 use Rattle.search.specs.Children.{bound, settle}
 use Rattle.rows.specs.declared.parts.Rest.{Rest}
 use Rattle.rows.specs.declared.parts.Made.{Made}
-use Rattle.rows.specs.MemberWords.{words-over}
+use Rattle.rows.specs.Terms.MemberWords.{words-over}
 use Rattle.rows.specs.Row.{Makes}
 use Rattle.binding.specs.Child.{ahead}
 use Rattle.choices.specs.declared.sides.Sides.{Sides}

@@ -7,7 +7,7 @@ use native.Mathlib.Omega.{arith}
 use native.Mathlib.Numerals.{sub-one}
 use lib.ListN.{length, getD, drop}
 use borrow.Author.Tests.{eq-eqb, ne-eqb}
-use Rattle.terms.specs.Flat.{size-positive}
+use Rattle.terms.specs.Laws.Flat.{size-positive}
 use Rattle.terms.specs.Kind.{takes, takes-empty, takes-functor}
 use Rattle.terms.specs.Reading.{top, taken}
 use Rattle.terms.specs.Term.{Term, Terms, functor, empty, more, size, size*}

@@ -8,7 +8,7 @@ use native.Mathlib.Numerals.{add-one}
 use lib.ListN.{length, getD, drop, length-drop, length-append}
 use lib.Seq.{drop-cons, drop-drop, drop-at}
 use Rattle.terms.specs.Bounds.{Bounds, MEMBER}
-use Rattle.terms.specs.Flat.{length-words, size-positive}
+use Rattle.terms.specs.Laws.Flat.{length-words, size-positive}
 use Rattle.terms.specs.Formed.{Formed, Formed*, formed-unknown, formed-empty, formed-with, formed-functor, formed-none, formed-more, row}
 use Rattle.terms.specs.Kind.{kind, kind-unknown, kind-functor}
 use Rattle.terms.specs.declared.kind.Kind.{Kind}
@@ -16,7 +16,7 @@ use Rattle.terms.specs.Lists.{All, none, both, All-append}
 use Rattle.terms.specs.Reading.{read, top, taken, push, row-read}
 use Rattle.terms.specs.Term.{Term, unknown, empty, with, functor, more, words, words*, size, list}
 use Rattle.terms.specs.Term as term
-use Rattle.terms.specs.Walk.{Stands, stands-empty, stands-member, stands-unknown, stands-functor, words-stand, span, term-ends}
+use Rattle.terms.specs.Laws.Walk.{Stands, stands-empty, stands-member, stands-unknown, stands-functor, words-stand, span, term-ends}
 use Rattle.term_places.specs.Places.{terms-from, tree, end, Terms}
 
 -- ---- words with some of the first dropped

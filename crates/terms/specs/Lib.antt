@@ -6,9 +6,6 @@ pub mod Refusal
 pub mod Answers
 pub mod Shape
 pub mod Kind
-pub mod Flat
 pub mod Reading
-pub mod Walk
 pub mod Listing
-pub mod FormedParts
-pub mod Substitution
+pub mod Laws

@@ -5,7 +5,7 @@ use mathlib.Core.List.{List, [], _∷_, _++_}
 use lib.ListN.{length, length-append}
 use Rattle.terms.specs.Answers.{Binding, binding-words, answer-words, listed}
 use Rattle.terms.specs.Bounds.{Bounds}
-use Rattle.terms.specs.Flat.{length-words, size-positive}
+use Rattle.terms.specs.Laws.Flat.{length-words, size-positive}
 use Rattle.terms.specs.Listing.{Bound, list-words}
 use Rattle.terms.specs.Lists.{All, both}
 use Rattle.terms.specs.Term.{words}

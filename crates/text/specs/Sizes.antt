@@ -5,7 +5,7 @@ use mathlib.Core.Path.{_≡_}
 use mathlib.Core.List.{List, [], _∷_, _++_}
 use lib.ListN.{length, length-append}
 use Rattle.terms.specs.Bounds.{Bounds, edition-one, ARITY}
-use Rattle.terms.specs.Flat.{length-words}
+use Rattle.terms.specs.Laws.Flat.{length-words}
 use Rattle.terms.specs.Lists.{All, both}
 use Rattle.terms.specs.Term.{Term, Terms, none, words, size, size*}
 use Rattle.terms.specs.Formed.{Formed, Formed*, formed-unknown, formed-empty, formed-with, formed-functor, formed-none, formed-more, Equation, sides, Question, row, Good}

@@ -9,7 +9,7 @@ use lib.Seq.{drop-cons}
 use borrow.Author.Tests.{ne-eqb, eq-eqb}
 use Rattle.terms.specs.Bounds.{Bounds, MEMBER}
 use Rattle.terms.specs.Kind.{takes}
-use Rattle.terms.specs.Walk.{span, span-short}
+use Rattle.terms.specs.Laws.Walk.{span, span-short}
 use Rattle.walks.specs.Occurrence.{in-terms, in-rest}
 use Rattle.walks.specs.declared.occurrence.Occurrence.the-variants.{Absent, Tail, Inside}
 

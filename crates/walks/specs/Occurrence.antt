@@ -9,7 +9,7 @@ use native.Mathlib.Nat.{add-zero, add-suc, zero-add}
 use borrow.Author.Tests.{ne-eqb}
 use Rattle.terms.specs.Bounds.{Bounds, MEMBER, EMPTY}
 use Rattle.terms.specs.Kind.{takes, takes-empty, takes-member, takes-unknown, takes-functor, apart-words, Worded}
-use Rattle.terms.specs.Flat.{eqb-shift}
+use Rattle.terms.specs.Laws.Flat.{eqb-shift}
 use Rattle.terms.specs.Lists.{any, cases, cond-or}
 use Rattle.terms.specs.Shape.{is-unknown, number}
 use Rattle.terms.specs.Term.{Term, Terms, unknown, empty, with, functor, words, words*, occurs, occurs*, count, members, kernel}

@@ -2,7 +2,7 @@
 ghost use mathlib.Core.Path.{_≡_};
 ghost use lib.ListN.{drop};
 ghost use Rattle.terms.specs.Bounds.{edition-one};
-ghost use Rattle.terms.specs.Walk.{Starts};
+ghost use Rattle.terms.specs.Laws.Walk.{Starts};
 ghost use Rattle.walks.specs.Occurrence.{in-terms, in-rest};
 use terms::bounds::MEMBER;
 use terms::kind::terms_after;

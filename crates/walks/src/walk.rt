@@ -4,7 +4,7 @@ ghost use mathlib.Core.Path.{_≡_};
 ghost use Prim.Native.Nat.{_+_, _≤_};
 ghost use lib.ListN.{length, drop};
 ghost use Rattle.terms.specs.Bounds.{edition-one};
-ghost use Rattle.terms.specs.Walk.{span};
+ghost use Rattle.terms.specs.Laws.Walk.{span};
 use terms::kind::terms_after;
 
 // The place after so many terms, or the length where words stop before that.

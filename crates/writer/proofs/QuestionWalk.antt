@@ -8,7 +8,7 @@ use lib.Dec.{ltb}
 use lib.ListN.{length, drop, length-append}
 use lib.Seq.{drop-drop, drop-at}
 use Rattle.terms.specs.Bounds.{Bounds}
-use Rattle.terms.specs.Flat.{length-words}
+use Rattle.terms.specs.Laws.Flat.{length-words}
 use Rattle.terms.specs.Kind.{Worded}
 use Rattle.terms.specs.Lists.{All, both, cases}
 use Rattle.terms.specs.Lists as lists

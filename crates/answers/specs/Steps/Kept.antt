@@ -11,10 +11,10 @@ use Rattle.terms.specs.Lists.{All, none, both, All-map, All-append, All-of-map,
 use Rattle.terms.specs.Term.{Term, unknown, with, occurs, kernel, over}
 use Rattle.terms.specs.Shape.{number, arguments}
 use Rattle.terms.specs.Formed.{Formed, formed-unknown, formed-functor, Equation}
-use Rattle.terms.specs.Substitution.{formed-wider, formed-subst}
+use Rattle.terms.specs.Laws.Substitution.{formed-wider, formed-subst}
 use Rattle.terms.specs.Answers.{Binding}
 use Rattle.terms.specs.Listing.{Bound}
-use Rattle.terms.specs.FormedParts.{formed-members, formed-kernel, formed-over, formed-list, unknown-below}
+use Rattle.terms.specs.Laws.FormedParts.{formed-members, formed-kernel, formed-over, formed-list, unknown-below}
 use Rattle.laws.specs.Members.{kernel-over}
 use Rattle.search.specs.declared.steps.Tails.{Tails}
 use Rattle.search.specs.declared.steps.Step.{Step}

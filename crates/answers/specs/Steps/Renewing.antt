@@ -8,7 +8,7 @@ use native.Mathlib.Omega.{arith}
 use Rattle.terms.specs.Lists.{All-map, All-both}
 use Rattle.terms.specs.Term.{Term}
 use Rattle.terms.specs.Formed.{Formed, Ground, Equation}
-use Rattle.terms.specs.Substitution.{absent-above}
+use Rattle.terms.specs.Laws.Substitution.{absent-above}
 use Rattle.laws.specs.Laws.{_≈_, ≈sym, ≈trans}
 use Rattle.laws.specs.Values.{Values, value, given, GroundValues, Holds}
 use Rattle.laws.specs.ValuesPut.{value-given}

@@ -16,7 +16,7 @@ use Rattle.laws.specs.Laws.{_≈_, ≈sym, ≈trans}
 use Rattle.laws.specs.Values.{Values, value, given, GroundValues, Solves}
 use Rattle.laws.specs.Members.{kernel-over, kernel-kernel}
 use Rattle.laws.specs.ValuesPut.{value-bound}
-use Rattle.terms.specs.FormedParts.{formed-kernel, unknown-below}
+use Rattle.terms.specs.Laws.FormedParts.{formed-kernel, unknown-below}
 use Rattle.laws.specs.Tails.{Met, met, those-in, shared, formed-shared, complete-neither, complete-left, complete-right, complete-different-left, complete-different-right, complete-same}
 use Rattle.search.specs.declared.steps.Tails.{Tails}
 use Rattle.search.specs.State.{State, pend}

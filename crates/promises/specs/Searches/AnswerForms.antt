@@ -9,7 +9,7 @@ use Rattle.terms.specs.Formed.{Equation, Question}
 use Rattle.terms.specs.Answers.{Binding, answer-words}
 use Rattle.search.specs.Run.{Loan, Outcome, Visit, Verdict, stops, overflows, goes-on, Answer, silent, states, answer-by, visit, dead-visit, visits, root, found, verdict, spend, after, scan, ran}
 use Rattle.promises.specs.Wording.{In-form, Answers-in-form, words-of}
-use Rattle.terms.specs.Substitution.{formed-wider}
+use Rattle.terms.specs.Laws.Substitution.{formed-wider}
 use Rattle.search.specs.State.{Entry}
 use Rattle.invariants.specs.Orderly.{Orderly}
 use Rattle.promises.specs.Searches.Visiting.{visits-each}

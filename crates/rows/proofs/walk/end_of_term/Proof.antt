@@ -1,4 +1,4 @@
-use Rattle.rows.specs.Ended.{term-end-one}
+use Rattle.rows.specs.Terms.Ended.{term-end-one}
 use mathlib.Core.Path.{sym, _∙_}
 use borrow.Author.Needs.{needs}
 use Rattle.rows.proofs.walk.end_of_term.Statement.{statement}

@@ -1,5 +1,5 @@
 use Rattle.rows.proofs.Walks.{holds-here, holds-after, holds-nowhere}
-use Rattle.rows.specs.HeldWords.{holds}
+use Rattle.rows.specs.Terms.HeldWords.{holds}
 use lib.ListN.{length, drop}
 use native.Mathlib.Omega.{arith}
 use mathlib.Core.Path.{_≡_, refl, sym, _∙_}

@@ -1,4 +1,4 @@
-use Rattle.rows.specs.Stripped.{stripped, stripped-mark, stripped-stop, stripped-out, stripped-on}
+use Rattle.rows.specs.Terms.Stripped.{stripped, stripped-mark, stripped-stop, stripped-out, stripped-on}
 use Rattle.terms.specs.Bounds.{edition-one}
 use lib.ListN.{length, drop}
 use native.Mathlib.Omega.{arith}

@@ -1,5 +1,5 @@
 use Rattle.terms.specs.Bounds.{edition-one}
-use Rattle.terms.specs.Walk.{span, span-zero}
+use Rattle.terms.specs.Laws.Walk.{span, span-zero}
 use Rattle.walks.proofs.Walking.{span-out, span-step}
 use lib.ListN.{length, drop}
 use native.Mathlib.Omega.{arith}

@@ -5,7 +5,7 @@ use lib.ListN.{length, drop}
 use borrow.Author.Needs.{needs}
 use native.Mathlib.Omega.{arith}
 use Rattle.terms.specs.Bounds.{edition-one}
-use Rattle.terms.specs.Walk.{span, span-zero}
+use Rattle.terms.specs.Laws.Walk.{span, span-zero}
 use Rattle.walks.proofs.Walking.{span-out, span-step}
 use Rattle.walks.proofs.walk.terms_end.Statement.{statement}
 use Rattle.walks.proofs.walk.terms_end.Tie as tie

@@ -12,7 +12,7 @@ use Rattle.terms.specs.Bounds.{Bounds, UnknownsFirst, MEMBER, EMPTY}
 use Rattle.terms.specs.Kind.{takes}
 use Rattle.terms.specs.Lists.{any, or-neither, cases}
 use Rattle.terms.specs.Term.{Term, Terms, unknown, empty, with, functor, none, more, words, words*, subst, subst*, occurs, occurs*}
-use Rattle.terms.specs.Flat.{eqb-shift}
+use Rattle.terms.specs.Laws.Flat.{eqb-shift}
 use Rattle.walks.specs.declared.occurrence.Occurrence.the-variants.{Absent}
 use Rattle.walks.specs.Occurrence.{in-terms, in-rest}
 

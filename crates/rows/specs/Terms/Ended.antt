@@ -6,7 +6,7 @@ use native.Mathlib.Omega.{arith}
 use lib.ListN.{length, getD}
 use Rattle.terms.specs.Bounds.{Bounds}
 use Rattle.terms.specs.Kind.{takes}
-use Rattle.terms.specs.Walk.{span, span-zero}
+use Rattle.terms.specs.Laws.Walk.{span, span-zero}
 
 abbrev pub term-end : Bounds → List ℕ → List ℕ → ℕ
 term-end b arities ws = span b arities ws 1

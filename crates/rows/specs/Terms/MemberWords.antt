@@ -12,9 +12,9 @@ use Rattle.terms.specs.Lists.{any}
 use Rattle.terms.specs.Term.{Term, unknown, empty, with, functor, words, members, kernel, over, occurs}
 use Rattle.terms.specs.Shape.{is-unknown}
 use Rattle.terms.specs.Formed.{Formed, formed-unknown, formed-empty, formed-with, formed-functor}
-use Rattle.terms.specs.Flat.{length-words}
-use Rattle.rows.specs.HeldWords.{holds, holds-append, holds-words, mark-other}
-use Rattle.rows.specs.Stripped.{kernel-place}
+use Rattle.terms.specs.Laws.Flat.{length-words}
+use Rattle.rows.specs.Terms.HeldWords.{holds, holds-append, holds-words, mark-other}
+use Rattle.rows.specs.Terms.Stripped.{kernel-place}
 
 unfoldable pub member-words : Bounds → List Term → List ℕ
 member-words b [] = []

@@ -14,7 +14,7 @@ use Rattle.terms.specs.Kind.{takes, Worded}
 use Rattle.terms.specs.Lists.{cases, All-units}
 use Rattle.terms.specs.Term.{Term, unknown, empty, with, functor, words, words*, size}
 use Rattle.terms.specs.Formed.{Formed, formed-unknown, formed-empty, formed-with, formed-functor}
-use Rattle.terms.specs.Walk.{past}
+use Rattle.terms.specs.Laws.Walk.{past}
 
 -- so many terms of a member are due, and a place is reached
 unfoldable pub stripped : Bounds → List ℕ → List ℕ → (due place : ℕ) → ℕ

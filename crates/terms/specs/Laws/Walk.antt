@@ -11,7 +11,7 @@ use Rattle.terms.specs.Kind.{takes, takes-empty, takes-member, takes-unk
 use Rattle.terms.specs.Lists.{All, none, both, All-append, All-front, All-back}
 use Rattle.terms.specs.Term.{Term, Terms, words, words*, size, size*, count}
 use Rattle.terms.specs.Formed.{Formed, Formed*, formed-unknown, formed-empty, formed-with, formed-functor, formed-none, formed-more, row}
-use Rattle.terms.specs.Flat.{length-words}
+use Rattle.terms.specs.Laws.Flat.{length-words}
 
 -- how many words the first terms take, so many as are due; all, where words stop before that
 unfoldable pub span : Bounds → List ℕ → List ℕ → (due : ℕ) → ℕ
