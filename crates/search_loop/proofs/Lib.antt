@@ -1,7 +1,2 @@
-pub mod Desking
-pub mod OpenedNode
-pub mod Hearing
-pub mod UnopenedNode
-pub mod Sounding
-pub mod GoesOn
-pub mod Turning
+pub mod Looping
+pub mod RootRun

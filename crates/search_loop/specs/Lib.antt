@@ -1,4 +1,1 @@
-pub mod Desk
-pub mod ChildrenPassed
-pub mod Path
-pub mod Running
+pub mod Root

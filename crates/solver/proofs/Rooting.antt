@@ -21,14 +21,14 @@ use Rattle.invariants.specs.Tree.{start-orderly}
 use Rattle.search_laws.specs.Going.{left, resumed-none, left-none, to-come, to-come-root}
 use Rattle.rows.specs.Header.{header-of}
 use Rattle.rows.specs.Row.{Fresh, header-for, header-words}
-use Rattle.search_loop.specs.ChildrenPassed.{spent-stops, large-stops}
+use Rattle.search_turn.specs.ChildrenPassed.{spent-stops, large-stops}
 use Rattle.results.specs.Loans.{loan, ending}
 use Rattle.results.specs.Result.{gives}
-use Rattle.search_loop.specs.Running.{given, remains, Ends}
-use Rattle.root.specs.Root.{root-header, rooted, nothing, Rooted}
-use Rattle.root.proofs.RootRun.{row-fits, ends-as}
+use Rattle.search_turn.specs.Running.{given, remains, Ends}
+use Rattle.search_loop.specs.Root.{root-header, rooted, nothing, Rooted}
+use Rattle.search_loop.proofs.RootRun.{row-fits, ends-as}
 use Rattle.solver.specs.Start.{Asking, whole-run}
-use Rattle.search_loop.proofs.Turning.{stops-here, suits-kept}
+use Rattle.search_turn.proofs.Turning.{stops-here, suits-kept}
 
 module _ {unknowns : ℕ} {arities ws : List ℕ} {limits : Limits} {l : List ℕ} (A : Asking unknowns arities ws limits l) where
   abbrev q : Question

@@ -21,8 +21,8 @@ use Rattle.results.specs.declared.ran.Ending.{Ending}
 use Rattle.results.specs.Loans.{needed}
 use Rattle.results.specs.Result.{told-within, RunGives}
 use Rattle.results.specs.Telling.{given-so, is-run}
-use Rattle.search_loop.specs.Running.{Ends}
-use Rattle.search_loop.proofs.GoesOn.{needed-small}
+use Rattle.search_turn.specs.Running.{Ends}
+use Rattle.search_turn.proofs.GoesOn.{needed-small}
 use Rattle.solver.specs.Start.{Asking, Bounded, whole-run}
 
 pub fine-run : (n : ℕ) (arities : List ℕ) (e : ℕ) (ws : List ℕ) (limits : Limits) (a l : List ℕ) → check-question edition-one n arities e ws ≡ Fine

@@ -12,7 +12,7 @@ use Rattle.search.specs.declared.limits.Limits.{Limits}
 use Rattle.search.specs.Run.{Outcome, ran}
 use Rattle.search.specs.RunLimits.{most-steps, most-depth, most-size}
 use Rattle.results.specs.Loans.{loan, ending}
-use Rattle.search_loop.specs.Running.{Suits, Given}
+use Rattle.search_turn.specs.Running.{Suits, Given}
 
 pub record Asking (unknowns : ℕ) (arities ws : List ℕ) (limits : Limits) (l : List ℕ) : Type 0 where
   pub suits : Suits arities limits l

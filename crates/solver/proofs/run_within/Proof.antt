@@ -3,7 +3,7 @@ use mathlib.Core.Path.{sym, _∙_}
 use native.Mathlib.Omega.{arith}
 use lib.Seq.{length-take-le}
 use Rattle.results.specs.Loans.{needed}
-use Rattle.search_loop.proofs.GoesOn.{needed-small}
+use Rattle.search_turn.proofs.GoesOn.{needed-small}
 use Rattle.results.specs.Telling.{faulty, small-room}
 use Rattle.solver.proofs.TestsPassed.{fine-run, asking}
 use borrow.Author.Needs.{needs}

@@ -1,6 +1,6 @@
 -- `solver::start`: `Rooting` says what ends the run before its root is opened, and that the root's row holds the question.
 use native.Mathlib.Omega.{arith}
-use Rattle.root.proofs.RootRun.{row-fits}
+use Rattle.search_loop.proofs.RootRun.{row-fits}
 use Rattle.solver.proofs.Rooting.{no-steps, too-large, rooted-so, unknowns-small}
 use borrow.Author.Needs.{needs}
 use Rattle.solver.proofs.start.Statement.{statement}

@@ -12,11 +12,11 @@ use Rattle.results.specs.declared.ran.Record.{Record}
 use Rattle.only_child.specs.declared.next.Looked.{Looked}
 use Rattle.only_child.specs.declared.next.Next.the-variants.{Node as Found}
 use Rattle.pick_loop.specs.Shown.{Looks}
-use Rattle.search_loop.specs.Desk.{Desk, nothing-open, open-here, open-above, desk-here, desk-above, desk-kept}
+use Rattle.search_turn.specs.Desk.{Desk, nothing-open, open-here, open-above, desk-here, desk-above, desk-kept}
 use Rattle.children.specs.Looking.{Looking}
 use Rattle.visits.specs.DueNode.{most-of}
-use Rattle.search_loop.specs.Running.{Given, Running, scratch-of}
-use Rattle.search_loop.proofs.GoesOn.{rows-above, ready}
+use Rattle.search_turn.specs.Running.{Given, Running, scratch-of}
+use Rattle.search_turn.proofs.GoesOn.{rows-above, ready}
 use Rattle.terms.specs.Lists.{cases}
 
 module _ {arities : List ℕ} {limits : Limits} {l a : List ℕ} {level shown : ℕ} {r : Record} {to : Given} (R : Running arities limits l a level shown r to) where

@@ -9,7 +9,7 @@ use Rattle.room.specs.Layout.{stride}
 use Rattle.search_laws.specs.Going.{Open}
 use Rattle.pick_loop.specs.Shown.{shown-kept}
 use Rattle.children.specs.Looking.{Stands}
-use Rattle.search_loop.specs.Path.{Rows, a-row}
+use Rattle.search_turn.specs.Path.{Rows, a-row}
 
 -- the level whose split stands open in scratch, counted from 1; 0 where none does
 pub data Desk (l : List ℕ) (lent scratch : ℕ) : List Open → ℕ → Type 0 where

@@ -17,8 +17,8 @@ use Rattle.results.specs.declared.ran.Record.{Record}
 use Rattle.results.specs.declared.ran.Ending.{Ending}
 use Rattle.visits.specs.declared.node.Turn.{Turn}
 use Rattle.visits.specs.declared.node.Turn.the-variants.{At, End}
-use Rattle.search_loop.specs.Desk.{Desk}
-use Rattle.search_loop.specs.Path.{Rows}
+use Rattle.search_turn.specs.Desk.{Desk}
+use Rattle.search_turn.specs.Path.{Rows}
 use Rattle.results.specs.Loans.{loan, needed}
 
 -- what a run gives: its end and numbers, and what the lent answer words hold then

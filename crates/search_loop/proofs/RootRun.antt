@@ -25,13 +25,13 @@ use Rattle.counters.specs.Counted.{counted}
 use Rattle.answer_record.specs.Noting.{with-answers, fits, answer-in, note-by, held-by, Notable}
 use Rattle.answer_record.specs.RowAnswer.{answer-held, held-notable}
 use Rattle.results.specs.declared.ran.Ending.{Ending}
-use Rattle.search_loop.specs.Desk.{nothing-open}
-use Rattle.search_loop.specs.ChildrenPassed.{long-overflows}
-use Rattle.search_loop.specs.Path.{Row, no-rows, a-row, fresh-number}
+use Rattle.search_turn.specs.Desk.{nothing-open}
+use Rattle.search_turn.specs.ChildrenPassed.{long-overflows}
+use Rattle.search_turn.specs.Path.{Row, no-rows, a-row, fresh-number}
 use Rattle.results.specs.Loans.{loan, needed, ending}
-use Rattle.search_loop.specs.Running.{Given, given, remains, Suits, Running, Ends}
-use Rattle.root.specs.Root.{nothing, Rooted}
-use Rattle.search_loop.proofs.OpenedNode.{overflows-here, goes-here, more, then, one-at-most}
+use Rattle.search_turn.specs.Running.{Given, given, remains, Suits, Running, Ends}
+use Rattle.search_loop.specs.Root.{nothing, Rooted}
+use Rattle.search_turn.proofs.OpenedNode.{overflows-here, goes-here, more, then, one-at-most}
 
 pub row-fits : {arities : List ℕ} {limits : Limits} {l : List ℕ} → Suits arities limits l → limits .size + HEADER ≤ length l
 unfolding needed

@@ -32,16 +32,16 @@ use Rattle.answer_record.specs.RowAnswer.{answer-held, held-notable}
 use Rattle.only_child.specs.declared.next.Next.the-variants.{Node as Found}
 use Rattle.only_child.specs.Became.{few-names, small-enough}
 use Rattle.only_child.specs.Next.{dead-ends, Tells, then-live}
-use Rattle.search_loop.specs.Desk.{Desk, open-above, desk-kept}
+use Rattle.search_turn.specs.Desk.{Desk, open-above, desk-kept}
 use Rattle.visits.specs.ChildNumber.{number-words, part-after}
-use Rattle.search_loop.specs.ChildrenPassed.{long-overflows}
-use Rattle.search_loop.specs.Path.{Row, Rows, a-row, holds-kept, rows-kept, part-kept, numbered, before-number, holds-numbered, holds-after, fresh-number}
+use Rattle.search_turn.specs.ChildrenPassed.{long-overflows}
+use Rattle.search_turn.specs.Path.{Row, Rows, a-row, holds-kept, rows-kept, part-kept, numbered, before-number, holds-numbered, holds-after, fresh-number}
 use Rattle.results.specs.Loans.{loan}
 use Rattle.visits.specs.DueNode.{most-of, OpenParts, child-place, child-row, noted-turn, node-turn, node-room, node-answers}
-use Rattle.search_loop.specs.Running.{Given, given, remains, scratch-of, Running, Turned, goes, ends}
-use Rattle.search_loop.proofs.UnopenedNode.{next-visit, met, open-to}
-use Rattle.search_loop.proofs.GoesOn.{passed, rows-above, row-here, ready, most-few, most-deep}
-use Rattle.search_loop.proofs.Turning.{Told, suits-kept}
+use Rattle.search_turn.specs.Running.{Given, given, remains, scratch-of, Running, Turned, goes, ends}
+use Rattle.search_turn.proofs.UnopenedNode.{next-visit, met, open-to}
+use Rattle.search_turn.proofs.GoesOn.{passed, rows-above, row-here, ready, most-few, most-deep}
+use Rattle.search_turn.proofs.Turning.{Told, suits-kept}
 
 -- ---- the record and the answer words, with answers more
 

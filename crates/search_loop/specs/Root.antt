@@ -15,7 +15,7 @@ use Rattle.rows.specs.Row.{Fresh}
 use Rattle.rows.specs.declared.header.Header.{Header}
 use Rattle.rows.specs.Header.{header-of}
 use Rattle.results.specs.declared.ran.Record.{Record}
-use Rattle.search_loop.specs.Running.{Suits, Given, given, remains}
+use Rattle.search_turn.specs.Running.{Suits, Given, given, remains}
 
 -- the header of the root's row
 abbrev pub root-header : List ℕ → ℕ → Header

@@ -27,13 +27,13 @@ use Rattle.only_child.specs.declared.next.Next.{Next}
 use Rattle.only_child.specs.declared.next.Next.the-variants.{Spent, Node as Found, Due}
 use Rattle.visits.specs.declared.node.Turn.the-variants.{End}
 use Rattle.only_child.specs.Next.{Tells, all-dead, then-live, then-due, Child}
-use Rattle.search_loop.specs.Desk.{Desk}
-use Rattle.search_loop.specs.ChildrenPassed.{spent-stops, deep-stops}
-use Rattle.search_loop.specs.Path.{Rows, rows-kept}
+use Rattle.search_turn.specs.Desk.{Desk}
+use Rattle.search_turn.specs.ChildrenPassed.{spent-stops, deep-stops}
+use Rattle.search_turn.specs.Path.{Rows, rows-kept}
 use Rattle.results.specs.Loans.{loan}
 use Rattle.visits.specs.DueNode.{most-of, back-to, due-ending}
-use Rattle.search_loop.specs.Running.{Given, given, remains, Suits, scratch-of, Running, Turned, goes, ends}
-use Rattle.search_loop.proofs.GoesOn.{rows-above, passed, most-few, most-left}
+use Rattle.search_turn.specs.Running.{Given, given, remains, Suits, scratch-of, Running, Turned, goes, ends}
+use Rattle.search_turn.proofs.GoesOn.{rows-above, passed, most-few, most-left}
 
 -- ---- a run that ends
 

@@ -3,7 +3,7 @@
 ghost use mathlib.Core.Path.{_≡_};
 ghost use mathlib.Core.Bool.{cond};
 ghost use Prim.Native.Nat.{_+_};
-ghost use Rattle.search_loop.specs.Running.{Given, Running, Turned};
+ghost use Rattle.search_turn.specs.Running.{Given, Running, Turned};
 use children::look;
 use counters::with_nodes;
 use only_child::next::Next;

@@ -1,10 +1,10 @@
 -- `root::search_on`. The invariant: the search goes on, and what it is to give is what it was to give at first. The measure: the rows above and
 -- twice the steps that are left.
 use mathlib.Core.Path.{refl, _∙_}
-use Rattle.root.proofs.Looping.{Looping, before, less, again, ends-so}
+use Rattle.search_loop.proofs.Looping.{Looping, before, less, again, ends-so}
 use borrow.Author.Needs.{needs}
-use Rattle.root.proofs.search_on.Statement.{statement}
-use Rattle.root.proofs.search_on.Tie as tie
+use Rattle.search_loop.proofs.search_on.Statement.{statement}
+use Rattle.search_loop.proofs.search_on.Tie as tie
 
 abbrev Inv-loop : tie.InvT-loop
 Inv-loop arities limits answers₀ room₀ level₀ counts₀ shown₀ answers room level counts shown = Looping arities limits room₀ answers₀ counts₀ room answers level shown counts

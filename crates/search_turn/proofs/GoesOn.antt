@@ -19,12 +19,12 @@ use Rattle.search_laws.specs.Going.{Open, to-come}
 use Rattle.results.specs.declared.ran.Record.{Record}
 use Rattle.counters.specs.Counted.{counted}
 use Rattle.only_child.specs.Next.{dead-ends, Ready}
-use Rattle.search_loop.specs.ChildrenPassed.{to-come-deads, deads-pass}
-use Rattle.search_loop.specs.Path.{Row, Rows, a-row}
+use Rattle.search_turn.specs.ChildrenPassed.{to-come-deads, deads-pass}
+use Rattle.search_turn.specs.Path.{Row, Rows, a-row}
 use Rattle.results.specs.Loans.{loan, needed}
 use Rattle.visits.specs.DueNode.{most-of}
-use Rattle.search_loop.specs.Running.{Given, given, remains, Running}
-use Rattle.search_loop.proofs.Sounding.{sound}
+use Rattle.search_turn.specs.Running.{Given, given, remains, Running}
+use Rattle.search_turn.proofs.Sounding.{sound}
 
 pub top-row : {arities : List ℕ} {size visited : ℕ} {l : List ℕ} {o : Open} {path : List Open} → Rows arities size visited l (o ∷ path) → Row arities size visited l (length path * stride size) o
 top-row (a-row R Rs) = R

@@ -3,7 +3,7 @@ ghost use mathlib.Core.Path.{_≡_};
 ghost use Prim.Native.Nat.{_+_, _≤_, _<_};
 ghost use lib.ListN.{length};
 ghost use Rattle.room.specs.Layout.{HEADER};
-ghost use Rattle.root.specs.Root.{rooted};
+ghost use Rattle.search_loop.specs.Root.{rooted};
 use room::layout::HEADER;
 use rows::header::Header;
 use rows::header::seal;

@@ -9,7 +9,7 @@ use Rattle.results.specs.declared.ran.Record.{Record}
 use Rattle.results.specs.declared.ran.Ending.{Ending}
 use Rattle.visits.specs.declared.node.Turn.{Turn}
 use Rattle.visits.specs.declared.node.Turn.the-variants.{At, End}
-use Rattle.search_loop.specs.Running.{Given, Running, Turned, goes, ends, Ends}
+use Rattle.search_turn.specs.Running.{Given, Running, Turned, goes, ends, Ends}
 
 -- what is before a search: the rows above, and twice the steps that are left
 abbrev pub before : Limits → ℕ → Record → ℕ

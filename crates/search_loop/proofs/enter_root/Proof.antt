@@ -4,10 +4,10 @@ use Prim.Native.Nat.{_+_}
 use native.Mathlib.Omega.{arith}
 use lib.Seq.{length-take-le}
 use Rattle.room.specs.Layout.{HEADER}
-use Rattle.root.proofs.RootRun.{row-fits, root-notable, root-held, root-space}
+use Rattle.search_loop.proofs.RootRun.{row-fits, root-notable, root-held, root-space}
 use borrow.Author.Needs.{needs}
-use Rattle.root.proofs.enter_root.Statement.{statement}
-use Rattle.root.proofs.enter_root.Tie as tie
+use Rattle.search_loop.proofs.enter_root.Statement.{statement}
+use Rattle.search_loop.proofs.enter_root.Tie as tie
 
 add-end : tie.Need-add-end
 add-end c = search needs

@@ -23,12 +23,12 @@ use Rattle.pick_loop.specs.Shown.{Looks}
 use Rattle.children.specs.Looking.{Looking}
 use Rattle.visits.specs.ChildNumber.{number-of, number-words, number-back}
 use Rattle.visits.specs.DueNode.{OpenParts, most-of, back-to, due-ending, node-turn, node-room, node-answers}
-use Rattle.search_loop.specs.Running.{Given, scratch-of, Running, Turned}
-use Rattle.search_loop.proofs.Desking.{looking, open-then-spent, open-then-live}
-use Rattle.search_loop.proofs.OpenedNode.{live-parts, turned-live}
-use Rattle.search_loop.proofs.UnopenedNode.{turned-names, turned-large}
-use Rattle.search_loop.proofs.GoesOn.{row-here}
-use Rattle.search_loop.proofs.Turning.{Told, told-few, due-few, node-few, turned-spent, turned-due}
+use Rattle.search_turn.specs.Running.{Given, scratch-of, Running, Turned}
+use Rattle.search_turn.proofs.Desking.{looking, open-then-spent, open-then-live}
+use Rattle.search_turn.proofs.OpenedNode.{live-parts, turned-live}
+use Rattle.search_turn.proofs.UnopenedNode.{turned-names, turned-large}
+use Rattle.search_turn.proofs.GoesOn.{row-here}
+use Rattle.search_turn.proofs.Turning.{Told, told-few, due-few, node-few, turned-spent, turned-due}
 
 module _ {arities : List ℕ} {limits : Limits} {l a : List ℕ} {level shown : ℕ} {r : Record} {to : Given} (R : Running arities limits l a level shown r to) where
   abbrev at : ℕ

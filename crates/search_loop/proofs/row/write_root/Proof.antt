@@ -1,9 +1,9 @@
 -- `root::row::write_root`: the body is put first, then the header.
 use mathlib.Core.Path.{_∙_}
-use Rattle.root.specs.Root.{rooted}
+use Rattle.search_loop.specs.Root.{rooted}
 use borrow.Author.Needs.{needs}
-use Rattle.root.proofs.row.write_root.Statement.{statement}
-use Rattle.root.proofs.row.write_root.Tie as tie
+use Rattle.search_loop.proofs.row.write_root.Statement.{statement}
+use Rattle.search_loop.proofs.row.write_root.Tie as tie
 
 copy-in-requires : tie.Need-copy-in-requires
 copy-in-requires c κs = search needs

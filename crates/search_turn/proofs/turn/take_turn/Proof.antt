@@ -1,10 +1,10 @@
 -- `search_loop::turn::take_turn`: `Hearing` says what each answer of `look` makes of the search.
 use native.Mathlib.Omega.{arith}
-use Rattle.search_loop.proofs.GoesOn.{ready}
-use Rattle.search_loop.proofs.Hearing.{number-here, asks, spent-few, due-few-steps, node-few-steps, hears-spent, hears-due, hears-parts, hears-node}
+use Rattle.search_turn.proofs.GoesOn.{ready}
+use Rattle.search_turn.proofs.Hearing.{number-here, asks, spent-few, due-few-steps, node-few-steps, hears-spent, hears-due, hears-parts, hears-node}
 use borrow.Author.Needs.{needs}
-use Rattle.search_loop.proofs.turn.take_turn.Statement.{statement}
-use Rattle.search_loop.proofs.turn.take_turn.Tie as tie
+use Rattle.search_turn.proofs.turn.take_turn.Statement.{statement}
+use Rattle.search_turn.proofs.turn.take_turn.Tie as tie
 
 add-stride : tie.Need-add-stride
 add-stride c = search needs

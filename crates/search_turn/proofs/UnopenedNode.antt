@@ -21,12 +21,12 @@ use Rattle.only_child.specs.declared.next.Next.the-variants.{Node as Found}
 use Rattle.only_child.specs.Became.{many-names, few-names, too-large}
 use Rattle.only_child.specs.Next.{dead-ends, Tells, then-live}
 use Rattle.visits.specs.declared.node.Turn.the-variants.{End}
-use Rattle.search_loop.specs.ChildrenPassed.{names-stop, large-stops}
+use Rattle.search_turn.specs.ChildrenPassed.{names-stop, large-stops}
 use Rattle.results.specs.Loans.{loan}
 use Rattle.visits.specs.DueNode.{most-of}
-use Rattle.search_loop.specs.Running.{Given, given, remains, Running, Turned, ends}
-use Rattle.search_loop.proofs.GoesOn.{passed, most-few, most-deep}
-use Rattle.search_loop.proofs.Turning.{stops-here, Told}
+use Rattle.search_turn.specs.Running.{Given, given, remains, Running, Turned, ends}
+use Rattle.search_turn.proofs.GoesOn.{passed, most-few, most-deep}
+use Rattle.search_turn.proofs.Turning.{stops-here, Told}
 
 module _ {arities : List ℕ} {limits : Limits} {l a : List ℕ} {level shown : ℕ} {r : Record} {to : Given} (R : Running arities limits l a level shown r to) where
   abbrev pub next-visit : State → Visit

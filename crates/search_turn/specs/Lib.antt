@@ -1,0 +1,4 @@
+pub mod Desk
+pub mod ChildrenPassed
+pub mod Path
+pub mod Running
