@@ -26,16 +26,6 @@ module _ (row : List ℕ) {h : Header} (e : h ≡ header-in (take 5 row)) (a : L
   abbrev Answers : Noted → List ℕ → Type 0
   Answers n last = (n ≡ note-by (answer-in row) (length a) r) × (last ≡ held-by (answer-in row) a r)
 
-  nothing : answer-in row ≡ [] → Answers (Held r) a
-  unfolding note-by held-by fits with-answers listed
-  nothing n = rw (n, le-leb 0 (length a - r .words) (omega arith), add-zero (r .answers), add-zero (r .words), put-nil) (refl, refl)
-
-  pub pending-left : 0 < h .pending → Answers (Held r) a
-  pending-left p = nothing (pending-none row e p)
-
-  pub pile-left : 0 < h .pile → Answers (Held r) a
-  pile-left p = nothing (pile-none row e p)
-
   module _ (p : h .pending ≤ 0) (q : h .pile ≤ 0) (within : HEADER + h .body ≤ length row) where
     words-of-it : length (listed (listed-by row (h .body) ∷ [])) ≡ 1 + h .body
     unfolding listed-by
@@ -50,3 +40,13 @@ module _ (row : List ℕ) {h : Header} (e : h ≡ header-in (take 5 row)) (a : L
     held l w =
         let n = words-of-it in
         rw (one-answer row e p q, n, le-leb (1 + h .body) (length a - r .words) l) (refl, w ∙ ap (put a (r .words)) (sym (single (listed-by row (h .body)))))
+
+  nothing : answer-in row ≡ [] → Answers (Held r) a
+  unfolding note-by held-by fits with-answers listed
+  nothing n = rw (n, le-leb 0 (length a - r .words) (omega arith), add-zero (r .answers), add-zero (r .words), put-nil) (refl, refl)
+
+  pub pending-left : 0 < h .pending → Answers (Held r) a
+  pending-left p = nothing (pending-none row e p)
+
+  pub pile-left : 0 < h .pile → Answers (Held r) a
+  pile-left p = nothing (pile-none row e p)
