@@ -68,10 +68,10 @@ module _ (b : Bounds) {w : ℕ} where
   told : {k : Kind} → k ≡ kind b w → Means b w k
   told e = rw e (means b w)
 
-  pub empty-told : Empty ≡ kind b w → w ≡ 0
+  pub empty-told : Empty ≡ kind b w → w ≡ EMPTY
   empty-told e = go (told e)
     where
-      go : Means b w Empty → w ≡ 0
+      go : Means b w Empty → w ≡ EMPTY
       go (means-empty e) = e
 
   pub member-told : Member ≡ kind b w → w ≡ MEMBER
