@@ -13,7 +13,7 @@ use room::layout::HEADER;
 use rows::first::read_header;
 
 // Whether a visited row's answer is held, if it is one.
-#[derive(Drop)]
+#[derive(Clone, Copy)]
 pub enum Noted {
     Held(Record),
     // its words don't fit what remains

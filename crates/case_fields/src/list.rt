@@ -10,7 +10,7 @@ pub const COMMA: u8 = 44;
 const NO_WORD: u64 = 65536;
 
 // How many items of a field stand at the start of a slice, if the field is formed as it should be.
-#[derive(Drop)]
+#[derive(Clone, Copy)]
 pub struct Items {
     pub formed: bool,
     pub count: usize,

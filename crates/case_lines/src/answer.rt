@@ -4,7 +4,7 @@ use case_fields::line::{field, first_bytes, first_words};
 use case_fields::list::{put_arities, put_words};
 use word_writer::put::{put_byte, put_bytes, put_number};
 
-#[derive(Drop)]
+#[derive(Clone, Copy)]
 pub enum Answer {
     // a question that was read: its unknowns, functors, equations and words
     Question(usize, usize, usize, usize),

@@ -6,7 +6,7 @@ use case_fields::line::field;
 use case_fields::list::{Items, read_arities, read_words};
 
 // Its kind, the number in each field, and how many items each of its lists has.
-#[derive(Drop)]
+#[derive(Clone, Copy)]
 pub struct Case {
     pub kind: Kind,
     pub numbers: [u64; 10],

@@ -8,7 +8,7 @@ use libc::STDIN_FILENO;
 const LINE_FEED: u8 = 10;
 
 // So many bytes are held; the last so many begin with the line; it has so many, without its LF; and whether there is one at all.
-#[derive(Drop)]
+#[derive(Clone, Copy)]
 pub struct Line {
     pub held: usize,
     pub left: usize,

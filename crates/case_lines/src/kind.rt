@@ -2,7 +2,7 @@
 use case_fields::line::{field, tabs};
 use check::same;
 
-#[derive(Drop)]
+#[derive(Clone, Copy)]
 pub enum Kind {
     Text,
     Read,
@@ -17,7 +17,7 @@ pub enum Kind {
 }
 
 // How many TABs a line has, and which of its fields are the arities, the words, the row and the text. The others are numbers.
-#[derive(Drop)]
+#[derive(Clone, Copy)]
 pub struct Form {
     pub tabs: usize,
     pub arities: usize,

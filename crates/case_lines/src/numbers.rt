@@ -4,7 +4,7 @@ use case_fields::line::field;
 use case_fields::number::{Number, read_number};
 
 // The number in each field, if all are formed as they should be. Where a field is none, it is the largest: all that there is is lent.
-#[derive(Drop)]
+#[derive(Clone, Copy)]
 pub struct Numbers {
     pub formed: bool,
     pub of: [u64; 10],

@@ -8,7 +8,7 @@ use terms::kind::{Kind, kind_of};
 use terms::refusal::{Cause, Checked, Refusal};
 
 // What follows a word where a term is due: so many terms; or why it can't stand there.
-#[derive(Drop)]
+#[derive(Clone, Copy)]
 pub enum Follow {
     Terms(u8),
     Cannot(Cause),

@@ -7,7 +7,7 @@ use rows::walk::wide;
 
 // The numbers of members of its two sides; where the right side begins, and where it ends; where the two tails stand. Places are counted from the
 // body's first word.
-#[derive(Drop)]
+#[derive(Clone, Copy)]
 pub struct Sides {
     pub n: usize,
     pub m: usize,

@@ -84,7 +84,7 @@ fn read_arities(text: &[u8], at: usize, arities: &mut [u8]) -> Got
     }
 }
 
-#[derive(Drop)]
+#[derive(Clone, Copy)]
 pub enum Heading {
     // unknowns, functors, equations, and where reading goes on
     Read(usize, usize, usize, usize),

@@ -10,7 +10,7 @@ use terms::bounds;
 use terms::refusal::{Cause, Refusal};
 
 // An item of a list: a member, the tail after a bar, or an argument, with the number of arguments due after it.
-#[derive(Drop)]
+#[derive(Clone, Copy)]
 pub enum Item {
     Member,
     Tail,
@@ -19,7 +19,7 @@ pub enum Item {
 
 // What comes next: an item, which is a term at a place; nothing, as the term has ended there; or a refusal.
 // The last number counts the words so far.
-#[derive(Drop)]
+#[derive(Clone, Copy)]
 pub enum Next {
     Due(Item, usize, usize),
     Done(usize, usize),

@@ -42,7 +42,7 @@ pub fn peek(text: &[u8], at: usize) -> usize
 }
 
 // What was due is there, and reading goes on after it; or the first byte that differs.
-#[derive(Drop)]
+#[derive(Clone, Copy)]
 pub enum Met {
     At(usize),
     Refused(Refusal),

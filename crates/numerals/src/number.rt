@@ -6,7 +6,7 @@ use crate::bytes::peek;
 use terms::refusal::{Cause, Refusal};
 
 // A number and where reading goes on, or why it is none.
-#[derive(Drop)]
+#[derive(Clone, Copy)]
 pub enum Numeral {
     Value(usize, usize),
     Unfit(Refusal),

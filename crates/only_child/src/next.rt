@@ -4,7 +4,7 @@ ghost use Rattle.only_child.specs.Next.{next_made};
 
 use rows::parts::{Made, Reached};
 
-#[derive(Drop)]
+#[derive(Clone, Copy)]
 pub enum Next {
     // so many dead ends, and no child after them
     Spent(usize),
@@ -15,7 +15,7 @@ pub enum Next {
 }
 
 // What is told of a row's children, and whether the row's split stands open in scratch then.
-#[derive(Drop)]
+#[derive(Clone, Copy)]
 pub struct Looked {
     pub next: Next,
     pub opens: bool,

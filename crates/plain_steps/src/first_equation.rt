@@ -36,7 +36,7 @@ pub fn postpone(
 }
 
 // The numbers of words of two arguments.
-#[derive(Drop)]
+#[derive(Clone, Copy)]
 pub struct Pair {
     pub left: usize,
     pub right: usize,

@@ -4,7 +4,7 @@ ghost use Rattle.plain_steps.specs.Plain.{way_of};
 
 use search::steps::{Step, Tails};
 
-#[derive(Drop)]
+#[derive(Clone, Copy)]
 pub enum Plain {
     Drop,
     Bind(Tails),
@@ -13,7 +13,7 @@ pub enum Plain {
     Dead,
 }
 
-#[derive(Drop)]
+#[derive(Clone, Copy)]
 pub enum Way {
     Split(Tails),
     Plain(Plain),
@@ -33,7 +33,7 @@ pub fn way_of(step: Step) -> Way
 }
 
 // A first equation that leaves no choice: its step, the place of its right side, and the place after it.
-#[derive(Drop)]
+#[derive(Clone, Copy)]
 pub struct Forced {
     pub step: Plain,
     pub right: usize,

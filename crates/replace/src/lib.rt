@@ -17,7 +17,7 @@ fn smaller(a: usize, b: usize) -> usize
 }
 
 // The answer of a replacement.
-#[derive(Drop)]
+#[derive(Clone, Copy)]
 pub enum Copied {
     // All is written, in this many words.
     Done(usize),

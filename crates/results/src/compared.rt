@@ -2,7 +2,7 @@
 use terms::refusal::Refusal;
 
 // What the test of two ground terms answers.
-#[derive(Drop)]
+#[derive(Clone, Copy)]
 pub enum Equality {
     Equal,
     Differ,
@@ -10,7 +10,7 @@ pub enum Equality {
 }
 
 // What the test of values answers.
-#[derive(Drop)]
+#[derive(Clone, Copy)]
 pub enum Solving {
     Yes,
     No,

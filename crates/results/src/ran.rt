@@ -3,7 +3,7 @@ use search::ends::End;
 use terms::refusal::Refusal;
 
 // Nodes visited, answers, and the words that their list takes.
-#[derive(Drop)]
+#[derive(Clone, Copy)]
 pub struct Record {
     pub visited: u64,
     pub answers: u64,
@@ -11,14 +11,14 @@ pub struct Record {
 }
 
 // How a run ended, and what it counted.
-#[derive(Drop)]
+#[derive(Clone, Copy)]
 pub struct Ending {
     pub end: End,
     pub counts: Record,
 }
 
 // What a run answers.
-#[derive(Drop)]
+#[derive(Clone, Copy)]
 pub enum Ran {
     Ended(Ending),
     Refused(Refusal),

@@ -1,7 +1,7 @@
 // What reading a question gives.
 use terms::refusal::Refusal;
 
-#[derive(Drop)]
+#[derive(Clone, Copy)]
 pub enum Question {
     // unknowns, functors, equations, words
     Read(usize, usize, usize, usize),

@@ -2,7 +2,7 @@
 use terms::refusal::Refusal;
 
 // The text's length, or why nothing is written.
-#[derive(Drop)]
+#[derive(Clone, Copy)]
 pub enum Written {
     Length(usize),
     Refused(Refusal),

@@ -12,7 +12,7 @@ use search::steps::Step;
 use terms::kind::is_unknown;
 
 // The step, the place of the right side, and the place after it.
-#[derive(Drop)]
+#[derive(Clone, Copy)]
 pub struct First {
     pub step: Step,
     pub right: usize,
@@ -33,7 +33,7 @@ pub fn first_of(arities: &[u8], words: &[u16]) -> First
 }
 
 // An unknown's word, and the place and the number of words of a term.
-#[derive(Drop)]
+#[derive(Clone, Copy)]
 pub struct Subject {
     pub x: u16,
     pub by: usize,

@@ -5,7 +5,7 @@ ghost use Rattle.room.specs.Layout.{HEADER};
 ghost use Rattle.rows.specs.Header.{header_of, Small};
 
 // The numbers of a header: the words of the pending equations, of the pile and of the whole body, the number of bindings, the next unknown.
-#[derive(Drop)]
+#[derive(Clone, Copy)]
 pub struct Header {
     pub pending: usize,
     pub pile: usize,

@@ -3,7 +3,7 @@ ghost use Rattle.std.specs.Prelude.{◌≡◌};
 ghost use Rattle.rows.specs.Made.{of_sized};
 
 // What became of a due node.
-#[derive(Drop)]
+#[derive(Clone, Copy)]
 pub enum Made {
     Dead,
     // it needs an unknown too many
@@ -15,7 +15,7 @@ pub enum Made {
 }
 
 // What became of a due node that is no dead end.
-#[derive(Drop)]
+#[derive(Clone, Copy)]
 pub enum Reached {
     Names,
     Large,
@@ -23,7 +23,7 @@ pub enum Reached {
 }
 
 // What became of a live node that needs no unknown too many: its size tells.
-#[derive(Drop)]
+#[derive(Clone, Copy)]
 pub enum Sized {
     Large,
     Live,
@@ -40,7 +40,7 @@ pub fn of_sized(node: Sized) -> Made
 }
 
 // The rest of a row's body: where it begins, the words of its pending equations, of its pile and of its bindings, and the number of these.
-#[derive(Drop)]
+#[derive(Clone, Copy)]
 pub struct Rest {
     pub at: usize,
     pub pending: usize,
@@ -50,7 +50,7 @@ pub struct Rest {
 }
 
 // Which entries of a pile.
-#[derive(Drop)]
+#[derive(Clone, Copy)]
 pub enum Part {
     // those of an unknown
     Entries,

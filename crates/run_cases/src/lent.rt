@@ -18,7 +18,7 @@ pub const SIZE: u32 = 22;
 const SPACE: u32 = 23;
 
 // The limits, and how many answer words and how much room a case lends.
-#[derive(Drop)]
+#[derive(Clone, Copy)]
 pub struct Loan {
     pub steps: u64,
     pub depth: usize,

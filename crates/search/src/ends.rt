@@ -2,7 +2,7 @@
 ghost use Rattle.std.specs.Prelude.{◌≡◌};
 ghost use Rattle.search.specs.Ends.{end_number, end_of};
 
-#[derive(Drop)]
+#[derive(Clone, Copy)]
 pub enum End {
     // every node was visited and every answer held
     Done,
@@ -19,7 +19,7 @@ pub enum End {
 }
 
 // The end that has a number, if the table has it.
-#[derive(Drop)]
+#[derive(Clone, Copy)]
 pub enum Listed {
     As(End),
     Nowhere,

@@ -2,7 +2,7 @@
 // equation has which.
 
 // What the tails of an equation's two sides are; an unknown is its own tail.
-#[derive(Drop)]
+#[derive(Clone, Copy)]
 pub enum Tails {
     // neither tail is an unknown
     Neither,
@@ -16,7 +16,7 @@ pub enum Tails {
     Same,
 }
 
-#[derive(Drop)]
+#[derive(Clone, Copy)]
 pub enum Step {
     // the equation says nothing
     Drop,

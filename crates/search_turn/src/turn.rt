@@ -13,7 +13,7 @@ use visits::node::{Turn, back, due, meet, most_passed};
 use visits::number::number_in;
 
 // A turn that was taken, and which split stands open in scratch after it: 0 where none does, else one more than the level of its row.
-#[derive(Drop)]
+#[derive(Clone, Copy)]
 pub struct Taken {
     pub turn: Turn,
     pub shown: usize,

@@ -20,7 +20,7 @@ use terms::bounds::PATH_UNKNOWNS;
 use terms::kind::unknown_word;
 
 // The numbers of words of U and of T, each member with its mark.
-#[derive(Drop)]
+#[derive(Clone, Copy)]
 pub struct Joined {
     pub u: usize,
     pub t: usize,

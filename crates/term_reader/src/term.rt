@@ -10,7 +10,7 @@ use items::item::{Item, Next, pass};
 use terms::refusal::Refusal;
 
 // Where reading goes on and how many words there are; or a refusal.
-#[derive(Drop)]
+#[derive(Clone, Copy)]
 pub enum Got {
     Read(usize, usize),
     Refused(Refusal),

@@ -6,7 +6,7 @@ ghost use Rattle.terms.specs.Kind.{kind, takes, within};
 use crate::bounds::{AFTER_FUNCTORS, EMPTY, FIRST_FUNCTOR, FIRST_UNKNOWN, MEMBER};
 
 // The empty set, a member adding, an unknown or a functor by its number; or nothing.
-#[derive(Drop)]
+#[derive(Clone, Copy)]
 pub enum Kind {
     Empty,
     Member,

@@ -3,7 +3,7 @@ ghost use Rattle.std.specs.Prelude.{◌≡◌};
 ghost use Rattle.terms.specs.Refusal.{number};
 
 // The table of refusals, SPECIFICATION 7. Its number 8 has four causes, which are told apart here; `number` gives the table's numbers.
-#[derive(Drop)]
+#[derive(Clone, Copy)]
 pub enum Cause {
     // a byte that the text form hasn't here, or the text stops
     Byte,
@@ -29,14 +29,14 @@ pub enum Cause {
     WordsLeft,
 }
 
-#[derive(Drop)]
+#[derive(Clone, Copy)]
 pub struct Refusal {
     pub cause: Cause,
     pub place: usize,
 }
 
 // The answer of a check: nothing is wrong, or the first fault.
-#[derive(Drop)]
+#[derive(Clone, Copy)]
 pub enum Checked {
     Fine,
     Refused(Refusal),

@@ -12,7 +12,7 @@ use rows::parts::Reached;
 use search::ends::End;
 use search::limits::Limits;
 
-#[derive(Drop)]
+#[derive(Clone, Copy)]
 pub enum Turn {
     // the search goes on from the row of this level
     At(usize, Record),

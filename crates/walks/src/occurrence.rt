@@ -8,7 +8,7 @@ use terms::bounds::MEMBER;
 use terms::kind::terms_after;
 
 // Not at all; as the tail and nowhere else; or in a member or an argument.
-#[derive(Drop)]
+#[derive(Clone, Copy)]
 pub enum Occurrence {
     Absent,
     Tail,

@@ -9,7 +9,7 @@ use crate::put::{put_byte, put_bytes, put_name};
 use terms::kind::{Kind, kind_of};
 
 // What a word stands for: a functor with the number of its arguments.
-#[derive(Drop)]
+#[derive(Clone, Copy)]
 pub enum Symbol {
     Empty,
     Adding,

@@ -16,14 +16,14 @@ pub const TAIL: u16 = 2;
 pub const ARGUMENT: u16 = 3;
 
 // How many brackets are open, and the place of the next byte.
-#[derive(Drop)]
+#[derive(Clone, Copy)]
 pub struct Pen {
     pub depth: usize,
     pub at: usize,
 }
 
 // A word was written, or would open a bracket too many.
-#[derive(Drop)]
+#[derive(Clone, Copy)]
 pub enum Step {
     On(Pen),
     Deep,

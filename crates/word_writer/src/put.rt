@@ -8,7 +8,7 @@ ghost use Rattle.word_writer.specs.Pen.{Wrote};
 const MOST: usize = 18446744073709551615;
 
 // What writing words comes to: all before a word are written and the next byte's place; or the word that would open a bracket too many.
-#[derive(Drop)]
+#[derive(Clone, Copy)]
 pub enum Passage {
     To(usize, usize),
     TooDeep(usize),
