@@ -187,7 +187,7 @@ module _ {arities : List ℕ} {from st : State} {n : ℕ} (opened : Opened from 
       (All-map (λ m h. h.0) c.joining_r) (All-map (λ m h. h.0) c.joining_s) c.new
       (omega (arith, c.few, kernel-fits t, kernel-fits u, size_positive (kernel t), size_positive (kernel u))))
 
-  pairwise_each : {ts us : List Term} (A B : ℕ) → A + B ≤ n → All (λ t. Use t × (size t ≤ A)) ts → All (λ u. Use u × (size u ≤ B)) us → All Sides (pairwise ts us)
+  pairwise_each : (A B : ℕ) {ts us : List Term} → A + B ≤ n → All (λ t. Use t × (size t ≤ A)) ts → All (λ u. Use u × (size u ≤ B)) us → All Sides (pairwise ts us)
   unfolding pairwise
   pairwise_each A B l All-none ks = All-none
   pairwise_each A B l (both h hs) All-none = All-none

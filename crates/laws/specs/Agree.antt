@@ -28,6 +28,8 @@ arguments→ (more t ts) (more u us) e =
 →arguments : (ts us : Terms) → Pairs Eq (list ts) (list us) → equal* ts us ≡ true
 unfolding tests list
 →arguments none none p = refl
+→arguments none (more u us) p = elim p [ ]
+→arguments (more t ts) none p = elim p [ ]
 →arguments (more t ts) (more u us) (pair h k) = rw (equal*-more t u ts us) (and_both h (→arguments ts us k))
 
 kernels→ : (k l : Term) → kernels_equal k l ≡ true → Kernels Eq k l
@@ -133,6 +135,8 @@ mutual
 pub pairs→≈* : (ts us : Terms) → Pairs ◌≈◌ (list ts) (list us) → ts ≈* us
 unfolding list
 pairs→≈* none none p = ≈none
+pairs→≈* none (more u us) p = elim p [ ]
+pairs→≈* (more t ts) none p = elim p [ ]
 pairs→≈* (more t ts) (more u us) (pair h k) = ≈more h (pairs→≈* ts us k)
 
 pub kernels→≈ : {k l : Term} → Kernels ◌≈◌ k l → k ≈ l

@@ -66,7 +66,7 @@ unfolding over
 absorb_one k (here h) = ≈trans (≈with h ≈refl) absorb
 absorb_one k (there h) = ≈trans exchange (≈with ≈refl (absorb_one k h))
 
-absorb_each : {ms : List Term} (ns : List Term) (k : Term) → Within ms ns → over ms (over ns k) ≈ over ns k
+absorb_each : (ns : List Term) {ms : List Term} (k : Term) → Within ms ns → over ms (over ns k) ≈ over ns k
 unfolding over
 absorb_each ns k All-none = ≈refl
 absorb_each ns k (both h hs) = ≈trans (≈with ≈refl (absorb_each ns k hs)) (absorb_one k h)

@@ -84,6 +84,7 @@ lead_read s p d ds r l h x n i e =
 
 run_read : (s : List ℕ) (p : ℕ) (ds r : List ℕ) → Leads ds → Digits ds → length ds ≤ 5 → Ends r → drop p s ≡ ds ++ r → number s p ≡ read (p + length ds) (value 0 ds)
 unfolding value
+run_read s p [] r l _ n i e = elim l [ ]
 run_read s p (d ∷ ds) r (leads l) (both x xs) n i e =
     let z : p + 1 + length ds ≡ p + suc (length ds) = omega arith in
     let y : 0 * 10 + (d - 48) ≡ d - 48 = omega arith in

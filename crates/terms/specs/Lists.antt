@@ -142,6 +142,7 @@ module _ {A : Type 0} where
 
   -- what each has and what some has, one has together
   pub Any_with : {P Q : A → Type 0} {xs : List A} → All P xs → Any Q xs → Any (λ x. P x × Q x) xs
+  Any_with {P = P} {Q = Q} none x3 = elim x3 [ ]
   Any_with (both g gs) (here h) = here (g, h)
   Any_with (both g gs) (there h) = there (Any_with gs h)
 
@@ -187,6 +188,7 @@ module _ {A B : Type 0} {P : B → Type 0} (f : A → B) where
   All_unmap (x ∷ xs) (both h hs) = both h (All_unmap xs hs)
 
   pub Any_unmap : (xs : List A) → Any P (map f xs) → Any (λ x. P (f x)) xs
+  Any_unmap [] x' = elim x' [ ]
   Any_unmap (x ∷ xs) (here h) = here h
   Any_unmap (x ∷ xs) (there h) = there (Any_unmap xs h)
 

@@ -92,6 +92,7 @@ module _ (σ : Values) (x : ℕ) (t : Term) where
   sound_bound st = go (occurs x t)
     where
       go : (c : Bool) → MeetsNode σ (cond c dead (live (bound_state x t st))) → (σ x ≈ value σ t) × MeetsState σ st
+      go true x'' = elim x'' [ ]
       go false (meets_live m) = bound-before st m
 
   -- x is bound to its value's equal, and is not the tail of what it is bound to
@@ -108,8 +109,10 @@ module _ (σ : Values) (x : ℕ) (t : Term) where
 
 pub sound_then_bound : (σ : Values) (x : ℕ) (t : Term) (node : Node) → MeetsNode σ (then_bound x t node) → (σ x ≈ value σ t) × MeetsNode σ node
 unfolding then_bound
+sound_then_bound σ x t dead m = elim m [ ]
 sound_then_bound σ x t (live st) m = let p = sound_bound σ x t st m in (p.0, meets_live p.1)
 
 pub complete_then_bound : (σ : Values) (x : ℕ) (t : Term) (node : Node) → MeetsNode σ node → σ x ≈ value σ t → occurs x t ≡ false → MeetsNode σ (then_bound x t node)
 unfolding then_bound
+complete_then_bound σ x t dead m h o = elim m [ ]
 complete_then_bound σ x t (live st) (meets_live m) h o = complete_bound σ x t st m h o

@@ -14,6 +14,9 @@ use Rattle.search.specs.StepView.{Buried, in_member, in_kernel, Clash, empty_fun
 
 inside_member : (x : ℕ) (t : Term) → Any (λ m. occurs x m ≡ true) (members t) → occurs_inside x t ≡ true
 unfolding members occurs_inside
+inside_member x (unknown _) h = elim h [ ]
+inside_member x empty h = elim h [ ]
+inside_member x (functor _ _) h = elim h [ ]
 inside_member x (with m r) (here h) = or_left (occurs_inside x r) h
 inside_member x (with m r) (there h) = or_right (occurs x m) (inside_member x r h)
 

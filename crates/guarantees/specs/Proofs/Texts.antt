@@ -80,6 +80,7 @@ deep_by (told_as {r = s} h) deep room text r e six =
     neither : OneOf (3 ∷ 8 ∷ []) 6 → ⊥
     neither (here e) = omega arith
     neither (there (here e)) = omega arith
+    neither (there (there e)) = elim e [ ]
 deep_by passed (first_at p) room text r e six = (refl, λ z. impossible (cc))
 deep_by passed all_within room text r e six =
     cases (ltb room (length text))
