@@ -121,7 +121,7 @@ other_parts P i h =
       by_within = P.by_within;
       to_within = P.to_within;
       body_apart = apart_part P.body_apart (omega arith) (omega arith) (omega arith) (omega arith);
-      at_apart = apart_part P.others_Apart (omega arith) (omega arith) (omega arith) (omega arith);
+      at_apart = apart_part P.others_apart (omega arith) (omega arith) (omega arith) (omega arith);
       by_apart = P.by_apart;
     }
 

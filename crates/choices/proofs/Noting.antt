@@ -25,7 +25,7 @@ pub none_noted : (arities : List ℕ) {r₀ : List ℕ} {body first end to : ℕ
 none_noted arities {r₀} {to = to} P = record {
   parts = P;
   after = omega arith;
-  before = P.from_First;
+  before = P.from_first;
   due_small = omega arith;
   done = [];
   count = refl;

@@ -82,7 +82,7 @@ module _ (deepest : ℕ) (st : State) (path : List Open) (c : ℕ) where
   unfolding to_come flat_map visits
   to_come_dead rest e f h =
       let n : deepest + 1 - length path ≡ suc (deepest - length path) = omega arith in
-      rw (e, f, n)
+      rw (n, e, f)
 
   -- the next child is a state, which is opened
   pub to_come_live : (next : State) (rest : List Node) → drop c (children st) ≡ live next ∷ rest → drop (suc c) (children st) ≡ rest → length path ≤ deepest
@@ -91,7 +91,7 @@ module _ (deepest : ℕ) (st : State) (path : List Open) (c : ℕ) where
   to_come_live next rest e f h =
       let n : deepest + 1 - length path ≡ suc (deepest - length path) = omega arith in
       let m : deepest + 1 - suc (length path) ≡ deepest - length path = omega arith in
-      rw (e, f, n, m)
+      rw (n, e, f, m)
       (ap (λ l. visit (suc (length path)) next ∷ l)
       (append_assoc (flat_map (visits (deepest - length path) (suc (suc (length path)))) (children next)) (flat_map (visits (suc (deepest - length path)) (suc (length path))) rest) (to_come deepest path)))
 
