@@ -2,6 +2,8 @@
 //
 // In specs/, `Noting` says which words an answer adds and what the record becomes; `RowAnswer` has the laws of a row's answer: where the row holds a state,
 // it is the answer that the state is.
+#![tactic(auto)]
+
 ghost use Rattle.std.specs.Prelude.{◌≡◌, ◌+◌, ◌≤◌, length};
 ghost use Rattle.room.specs.Room.{put};
 ghost use Rattle.room.specs.Layout.{HEADER};

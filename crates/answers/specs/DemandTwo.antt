@@ -26,10 +26,10 @@ module _ (b : Bounds) (proper : Proper b) (q : Question) (good : Good b q) where
     pub every_answer-true : All (λ answer. (σ : Values) → Meets b q σ answer → Solves σ q.equations) (ran b q l).answers
     every_answer-true = All-map (λ answer h. h.1) (sound b proper q good l)
 
-    module _ (done : (ran b q l).end ≡ Done) (table : List ℕ) (σ : Values) (ground : GroundValues table σ) where
+    module _ (done : (ran b q l).end ≡ Done) (table : List ℕ) (σ : Values) (grounded : GroundValues table σ) where
       -- Complete: after a done run, ground values that solve the question fit some listed answer.
       pub no_answer_lost : Solves σ q.equations → Any (Fits b q table σ) (ran b q l).answers
-      no_answer_lost = complete b q good l done table σ ground
+      no_answer_lost = complete b q good l done table σ grounded
 
       -- Together: for a done run, ground values solve the question exactly if they fit some listed answer.
       pub demand_two : Solves σ q.equations ↔ Any (Fits b q table σ) (ran b q l).answers

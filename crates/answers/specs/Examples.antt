@@ -85,13 +85,13 @@ states {t = t} f =
     record { bindings = first_is t; formed = both (record { name = first; value = formed_wider (omega arith) f }) none; words = refl }
 
 -- x0 = v solves the question exactly if some ground value of x1 makes v the value of t
-module _ {l r t : Term} (one : OneAnswer l r t) {v : Term} (ground : Ground arities v) where
+module _ {l r t : Term} (one : OneAnswer l r t) {v : Term} (grounded : Ground arities v) where
   fit_of_x1 : {w : Term} → Ground arities w → v ≈ value (in_order (v ∷ w ∷ [])) t → Fits edition_one (asks 1 l r) arities (in_order (v ∷ [])) (answer_words edition_one (first_is t))
   unfolding edition_one in_order states
   fit_of_x1 {w} f h =
       record {
         values = in_order (v ∷ w ∷ []);
-        ground = ground_in_order (both ground (both f none));
+        grounded = ground_in_order (both grounded (both f none));
         same = same;
         meets = record { states = states one.formed; met = both h none };
       }
@@ -102,7 +102,7 @@ module _ {l r t : Term} (one : OneAnswer l r t) {v : Term} (ground : Ground arit
 
   x1_of_fit : Fits edition_one (asks 1 l r) arities (in_order (v ∷ [])) (answer_words edition_one (first_is t)) → (w : Term) × Ground arities w × (v ≈ value (in_order (v ∷ w ∷ [])) t)
   unfolding edition_one in_order states
-  x1_of_fit f = (f.values 1, f.ground 1, go (meets_stated (answers_worded edition_one_proper one.good) (states one.formed) f.meets))
+  x1_of_fit f = (f.values 1, f.grounded 1, go (meets_stated (answers_worded edition_one_proper one.good) (states one.formed) f.meets))
     where
       agrees : (i : ℕ) → i < 2 → f.values i ≈ in_order (v ∷ f.values 1 ∷ []) i
       agrees zero k = rw (f.same 0 (omega arith)) ≈refl
@@ -114,7 +114,7 @@ module _ {l r t : Term} (one : OneAnswer l r t) {v : Term} (ground : Ground arit
 
   solves_exactly : Solves (in_order (v ∷ [])) (asks 1 l r).equations ↔ ((w : Term) × Ground arities w × (v ≈ value (in_order (v ∷ w ∷ [])) t))
   solves_exactly =
-      let d = demand_two edition_one edition_one_proper (asks 1 l r) one.good ample one.done arities (in_order (v ∷ [])) (ground_in_order (both ground none)) in
+      let d = demand_two edition_one edition_one_proper (asks 1 l r) one.good ample one.done arities (in_order (v ∷ [])) (ground_in_order (both grounded none)) in
       (λ h. x1_of_fit (only (rw one.listed at (d.0 h))), λ p. d.1 (rw one.listed (here (fit_of_x1 p.1 p.2))))
 
 -- ---- {a|x0} = {b|x0}: its answer is x0 = {a,b|x1}
@@ -171,15 +171,15 @@ matched_and-in_rest =
 
 pub no_set_is_its_member : (table : List ℕ) (σ : Values) → GroundValues table σ → Solves σ (asks 1 x0 (set (x0 ∷ []))).equations → ⊥
 unfolding computing row
-no_set_is_its_member table σ ground =
+no_set_is_its_member table σ grounded =
     let fine : Good edition_one (asks 1 x0 (set (x0 ∷ []))) = good x0_formed (formed_with x0_formed formed_empty) (omega arith) in
-    done-without_answers edition_one edition_one_proper (asks 1 x0 (set (x0 ∷ []))) fine ample refl table σ ground refl
+    done-without_answers edition_one edition_one_proper (asks 1 x0 (set (x0 ∷ []))) fine ample refl table σ grounded refl
 
 pub no_term_is_its_argument : (table : List ℕ) (σ : Values) → GroundValues table σ → Solves σ (asks 1 x0 (g x0)).equations → ⊥
 unfolding computing row count
-no_term_is_its_argument table σ ground =
+no_term_is_its_argument table σ grounded =
     let fine : Good edition_one (asks 1 x0 (g x0)) = good x0_formed (formed_functor (omega arith) refl (formed_more x0_formed formed_none)) (omega arith) in
-    done-without_answers edition_one edition_one_proper (asks 1 x0 (g x0)) fine ample refl table σ ground refl
+    done-without_answers edition_one edition_one_proper (asks 1 x0 (g x0)) fine ample refl table σ grounded refl
 
 -- ---- {x0,x0} = {a}, with steps for the first of its two answers: the run is not done, and what it lists is true
 

@@ -22,6 +22,6 @@ pub record Meets (b : Bounds) (q : Question) (σ : Values) (answer : List ℕ) :
 
 pub record Fits (b : Bounds) (q : Question) (table : List ℕ) (σ : Values) (answer : List ℕ) : Type 0 where
   pub values : Values
-  pub ground : GroundValues table values
+  pub grounded : GroundValues table values
   pub same : (i : ℕ) → i < q.unknowns → values i ≡ σ i
   pub meets : Meets b q values answer

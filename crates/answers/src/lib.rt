@@ -5,3 +5,4 @@
 //     Examples     the statements applied to the specimens (SPECIFICATION 11)
 //     Steps        one step: what a state says, that its children say no more and lose nothing
 //     Runs         from the steps to a whole run
+#![tactic(auto)]

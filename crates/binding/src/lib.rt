@@ -5,6 +5,7 @@
 //     keep  the same, where nothing is bound
 //
 // In specs/, `Child` and `Keep` say which words the child's row has then, and `At` what is asked of a row that a step is taken from.
+#![tactic(auto)]
 
 pub mod bind;
 pub mod keep;

@@ -3,6 +3,8 @@
 // `mensorique_c` has the calls.
 //
 // In specs/, `Replies` has the definitions.
+#![tactic(auto)]
+
 ghost use Rattle.std.specs.Prelude.{◌≡◌, [], ◌∷◌};
 ghost use Rattle.terms.specs.Refusal.{number};
 ghost use Rattle.c_replies.specs.Replies.{Replied, of_question, of_written, of_ran};

@@ -1,6 +1,8 @@
 // A run as C calls it: the entry is called, and its answer told. `mensorique_c` has the function that is exported.
 //
 // In specs/, `RunFromC` says what the call gives by the entry's own definition of what was lent: the reply, and each buffer as the entry leaves it.
+#![tactic(auto)]
+
 ghost use Rattle.std.specs.Prelude.{[], ◌∷◌, length as len};
 ghost use Rattle.results.specs.Result.{told};
 ghost use Rattle.c_run.specs.RunFromC.{RunReplied};

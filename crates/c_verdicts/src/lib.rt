@@ -1,4 +1,6 @@
 // What the answer of a comparison is told as to C: 1 or 0, or the refusal; by the definitions of `c_replies`.
+#![tactic(auto)]
+
 ghost use Rattle.std.specs.Prelude.{[], ◌∷◌};
 ghost use Rattle.c_replies.specs.Replies.{Replied, of_equality, of_solving};
 

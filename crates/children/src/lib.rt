@@ -1,5 +1,7 @@
 // The children of a row from a number on, by the kind of the row: dead ends are passed, and the first child that is none is written to the next row.
 // Crate `only_child` has the rows without a choice, and `openings` the splits.
+#![tactic(auto)]
+
 ghost use Rattle.std.specs.Prelude.{◌≡◌, true, ℕ, ◌+◌};
 ghost use Rattle.search.specs.State.{State};
 ghost use Rattle.only_child.specs.Next.{Ready};

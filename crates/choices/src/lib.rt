@@ -5,6 +5,7 @@
 //     equations       the new equations of a choice of picks
 //
 // In specs/, `Open`, `OpenParent` and `MemberPlaces` say where everything stands, `Digits` what the picks are, `Gathered` which equations they give.
+#![tactic(auto)]
 
 pub mod equations;
 pub mod members;

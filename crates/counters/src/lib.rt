@@ -1,6 +1,8 @@
 // The running record of nodes visited, answers and words used, and how it grows.
 //
 // In specs/, `Counted` says what the record becomes.
+#![tactic(auto)]
+
 ghost use Rattle.std.specs.Prelude.{◌≡◌, ◌+◌, ◌<◌, ◌^◌};
 ghost use Rattle.counters.specs.Counted.{counted, noted};
 

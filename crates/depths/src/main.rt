@@ -1,6 +1,8 @@
 // Deep and wide terms, to see that both tests come back and how they answer. Standard input has two ground terms a line, or, where the line has a bar, an
 // equation over the unknowns x and y, the bar, and their values. Letters are in prefix order: 1 is member adding, 0 the empty set, any other letter the
 // functor with the letter's number; g has one argument and p has two. Each answer is a line.
+#![tactic(auto)]
+
 use equality::{equal, solves};
 use results::compared::{Equality, Solving};
 use terms::bounds::{EMPTY, FUNCTORS, MEMBER};

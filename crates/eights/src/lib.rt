@@ -1,4 +1,6 @@
 // Words of a room copied up to a given word: eight at one go, unless one of them is that word, then one by one.
+#![tactic(auto)]
+
 ghost use Rattle.std.specs.Prelude.{◌≡◌, cond, [], ◌∷◌, length};
 ghost use Rattle.room.specs.Room.{seg, put, Within};
 ghost use Rattle.room.specs.Parts.{CopyParts};

@@ -44,7 +44,7 @@ module _ (arities row : List ℕ) (fine : check_row edition_one arities 2 row �
               worded = two.worded;
             };
         inside = λ i l. absurd (omega arith);
-        ground = λ i l. absurd (omega arith);
+        grounded = λ i l. absurd (omega arith);
       }
 
   pub two_equations : {labels : List ℕ} → length labels ≡ length row → Equations (held arities row []) labels 1

@@ -2,6 +2,8 @@
 // writes nothing.
 //
 // A client's contracts cite `specs/Answering.antt`, what the two answer. Crate `compare` compares the terms at two places, and `holding` goes through equations.
+#![tactic(auto)]
+
 ghost use Rattle.std.specs.Prelude.{◌≡◌, drop};
 ghost use Rattle.terms.specs.Bounds.{edition_one};
 ghost use Rattle.checks.specs.Check.{check_question, check_row};

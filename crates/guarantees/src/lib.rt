@@ -2,3 +2,4 @@
 //
 // specs/Promised.antt has the statements: open it first, with docs/SPECIFICATION.md beside it. specs/Wording.antt says what their words mean, specs/Examples.antt
 // applies each to a specimen, and the other files have the proofs, by subject.
+#![tactic(auto)]

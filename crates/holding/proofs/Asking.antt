@@ -100,7 +100,7 @@ module _ {b : Bounds} {arities ws : List ℕ} {n from m : ℕ} (q : WithValues b
       record {
         terms = rw e asked_terms;
         inside = λ i l. started_inside asked_terms from n i (omega arith) (omega (arith, value-count));
-        ground = λ i l. rw (values-here i (omega arith), from-values) (formed_at q.formed_values i);
+        grounded = λ i l. rw (values-here i (omega arith), from-values) (formed_at q.formed_values i);
       }
 
   module _ {starts : List ℕ} (noted : starts ≡ starts_from b arities ws from n) where

@@ -4,6 +4,7 @@
 //     spread  how many words a question has with its values put in
 //
 // In specs/, `Holding` says when an equation holds.
+#![tactic(auto)]
 
 pub mod hold;
 pub mod spread;

@@ -3,3 +3,4 @@
 // In specs/: `SolvedForm` says when bindings are in solved form, `Orderly` when a state is in order and which changes keep it so, `Falling` and `JoinFalls`
 // that every child is in order and smaller, `Tree` that all states from the root on are. Below them: numbers that pass a test, the unknowns of a
 // term, weights of equations, the picks of a split.
+#![tactic(auto)]

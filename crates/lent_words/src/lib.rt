@@ -1,5 +1,7 @@
 // The check of lent words: a question, a row of ground terms, a list of answers. Each takes any input, and answers what `Check` of checks' specs/ says:
 // counts and arities first, then the number of words, then the words one by one.
+#![tactic(auto)]
+
 ghost use Rattle.std.specs.Prelude.{◌≡◌};
 ghost use Rattle.terms.specs.Bounds.{edition_one};
 ghost use Rattle.checks.specs.Check.{arities_above, check_terms, check_question, check_row, check_answers};

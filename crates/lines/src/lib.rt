@@ -1,4 +1,5 @@
 // The lines of questions and of answer lists. In specs/, `Lines` and `ListLines` say what is written.
+#![tactic(auto)]
 
 pub mod line;
 pub mod list_lines;

@@ -13,6 +13,8 @@
 //   4 unknown or functor not declared                              8 words that form no such question, answer list or ground term
 //
 // Counts are taken at full width: one that is too large is refused, never cut.
+#![tactic(auto)]
+
 ghost use Rattle.std.specs.Prelude.{◌≡◌, length};
 ghost use Rattle.terms.specs.Bounds.{edition_one};
 ghost use Rattle.terms.specs.Listing.{answers_of};

@@ -3,6 +3,8 @@
 //
 // Crates `c_replies` and `c_verdicts` say which status and which out numbers an answer gives, and tell them; `c_run` has the call of a run, and `c_room` how many
 // words its room has. In specs/, `CallsFromC` says what a call gives by the entry's own definition of what was lent: the reply, and each buffer as the entry leaves it.
+#![tactic(auto)]
+
 ghost use Rattle.std.specs.Prelude.{◌≡◌, [], ◌∷◌, length as len};
 ghost use Rattle.terms.specs.Bounds.{edition_one};
 ghost use Rattle.terms.specs.Listing.{answers_of};

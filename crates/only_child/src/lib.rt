@@ -6,6 +6,7 @@
 //
 // In specs/, `Next` is what is asked of a row and told of its children; `Quiet` and `NoChoice` are what is asked by how the child comes; `Became` says what a
 // node is by what became of it.
+#![tactic(auto)]
 
 pub mod next;
 pub mod no_choice;

@@ -2,5 +2,6 @@
 // another is opened, and its next child is found by advancing the picks.
 //
 // In specs/, `SplitRow` is what is asked of a row whose first equation is a split. Crate `noted_sides` keeps the sides.
+#![tactic(auto)]
 
 pub mod open_split;

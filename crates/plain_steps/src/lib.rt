@@ -7,6 +7,7 @@
 //
 // In specs/, `StepParts`, `Singles`, `Decomposed` and `OnlyStep` say what each writes, `Join`, `JoinLaid` and `JoinMade` the same of a join;
 // `Plain` which step a plain one is.
+#![tactic(auto)]
 
 pub mod child;
 pub mod first_equation;

@@ -1,6 +1,8 @@
 // What the program `solve` prints, and the printing of it: a list's text, or the two lines of a refusal.
 //
 // In specs/, `Solved` says what is printed for any input; `Enough` shows that the sizes lent hold what every good question needs.
+#![tactic(auto)]
+
 ghost use Rattle.std.specs.Prelude.{◌≡◌, ◌≤◌, length};
 ghost use Rattle.printing.specs.Solved.{OUTPUT, Prints, refused, printed, of_list};
 

@@ -126,15 +126,15 @@ module _ (q : Question) (good : Good edition_two q) where
     unfolding edition_two
     names_suffice = promised.names_never_run_out edition_two q l good (omega (arith, good.unknowns))
 
-    module _ (done : (ran edition_two q l).end ≡ Done) (table : List ℕ) (σ : Values) (ground : GroundValues table σ) where
+    module _ (done : (ran edition_two q l).end ≡ Done) (table : List ℕ) (σ : Values) (grounded : GroundValues table σ) where
       done_exactly : Solves σ q.equations ↔ Any (Fits edition_two q table σ) (ran edition_two q l).answers
-      done_exactly = promised.done_exactly edition_two edition_two_proper q good l done table σ ground
+      done_exactly = promised.done_exactly edition_two edition_two_proper q good l done table σ grounded
 
       no_answer_lost : Solves σ q.equations → Any (Fits edition_two q table σ) (ran edition_two q l).answers
-      no_answer_lost = demand.no_answer_lost edition_two edition_two_proper q good l done table σ ground
+      no_answer_lost = demand.no_answer_lost edition_two edition_two_proper q good l done table σ grounded
 
       done-without_answers : (ran edition_two q l).answers ≡ [] → Solves σ q.equations → ⊥
-      done-without_answers = demand.done-without_answers edition_two edition_two_proper q good l done table σ ground
+      done-without_answers = demand.done-without_answers edition_two edition_two_proper q good l done table σ grounded
 
 module _ (q : Question) (l m : Loan) where
   more-lent_same_answers : NoLess l m → Begins (ran edition_two q l).answers (ran edition_two q m).answers

@@ -2,3 +2,4 @@
 //
 // specs/Promises.antt gathers the statements: start there. specs/Examples.antt applies each to a specimen. specs/Runs has what follows
 // of searches and runs from what `invariants` says of states.
+#![tactic(auto)]

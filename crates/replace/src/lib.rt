@@ -1,6 +1,8 @@
 // Words of a room copied with each word x replaced by other words of it, as far as a capacity goes.
 //
 // A client's contracts cite `specs/Fitting.antt`, and `Replaced` and `Parts` of `room`.
+#![tactic(auto)]
+
 ghost use Rattle.std.specs.Prelude.{◌≡◌, min};
 ghost use Rattle.room.specs.Room.{seg, put};
 ghost use Rattle.room.specs.Parts.{ReplaceParts};

@@ -2,6 +2,7 @@
 // refusal where there is one.
 //
 // In specs/, `Loans` says what a run is lent and what its outcome tells, `Result` what a run gives for any input, and `Telling` has it test by test.
+#![tactic(auto)]
 
 pub mod compared;
 pub mod ran;

@@ -2,6 +2,8 @@
 //
 // A client's contracts cite `specs/Room.antt` (`seg`, `put`), `specs/Parts.antt` (`Apart`, where the parts of a call lie) and `specs/Replaced.antt` (words in
 // which one is replaced), `specs/Layout.antt` the rows of a run's room.
+#![tactic(auto)]
+
 ghost use Rattle.std.specs.Prelude.{◌≡◌, length};
 ghost use Rattle.room.specs.Room.{seg, put, Within};
 ghost use Rattle.room.specs.Parts.{CopyParts};

@@ -9,6 +9,7 @@
 // In specs/, `Sections` says of what a row's body is made, `Row` which words a state has in a row, and what a step is to write; `Pile` and `States` are the
 // words of a pile and of a state, `Stepping` ties a step in words to `classify`, `Bind` and `Finished` are the words of a row in which an unknown is bound,
 // `Bind` section by section; `Made` has what became of a node, where not every case can come, as one of all. Terms/ has the terms in words that the run walks over.
+#![tactic(auto)]
 
 pub mod first;
 pub mod header;

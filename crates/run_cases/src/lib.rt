@@ -1,16 +1,16 @@
 // The cases of `run`: runs of a question's text and of its words.
 //
 //   lent   one run, of what a case lends
-//   text   run
+//   texts  run
 //   words  runw
 
 mod lent;
-mod text;
+mod texts;
 mod words;
 
 use case_lines::answer::Answer;
 use case_lines::kind::Kind;
-use text::run_case;
+use texts::run_case;
 use words::runw_case;
 
 // The answer to a case of these kinds. `bytes` and `words` are its lists; the answers' words go to `answers`.

@@ -7,6 +7,7 @@
 //
 // In specs/, `State`, `Classify`, `Children` and `Run` are the search, in the order of SPECIFICATION 5 and 6; `Specimens` is the table of 11, computed. `StepView`
 // says what each step tells of its equation: laws, for the proofs of the floors above.
+#![tactic(auto)]
 
 pub mod ends;
 pub mod limits;

@@ -1,6 +1,8 @@
 // The search from its root on: the root's row is written, its answer is noted, and turns are taken until the run ends.
 //
 // In specs/, `Root` says what the row holds, and when it is the first node of a run.
+#![tactic(auto)]
+
 ghost use Rattle.search_turn.specs.Running.{Given, Running, Ends};
 ghost use Rattle.search_loop.specs.Root.{Rooted};
 

@@ -2,5 +2,6 @@
 //
 // In specs/, `Running` is the loop's invariant, over `Path`, the rows of the path, and `Desk`, the split that stands open; `ChildrenPassed` has the laws of dead
 // ends passed at once.
+#![tactic(auto)]
 
 pub mod turn;

@@ -1,5 +1,7 @@
 // A question's text on standard input, the text of its answers on standard output; on a refusal, its number and its place. Crate `text_solver` says and
 // proves what is printed for what is read: here bytes are moved.
+#![tactic(auto)]
+
 use libc::{STDIN_FILENO, STDOUT_FILENO};
 use printing::OUTPUT;
 use text_solver::solve_text;

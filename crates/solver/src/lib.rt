@@ -1,6 +1,8 @@
 // A run: limits, question and room are tested, the root's row is written, and the search goes on from it.
 //
 // In specs/, `Result` says what a run gives for any input; `Start` is where the search starts.
+#![tactic(auto)]
+
 ghost use Rattle.std.specs.Prelude.{length};
 ghost use Rattle.search.specs.declared.limits.Lent.TheVariants as lents;
 ghost use Rattle.results.specs.Result.{RunGives, told, told_within};

@@ -5,6 +5,7 @@
 //     split          by the kind of the tails
 //
 // In specs/, `KeptTails` and `Shared` say what is laid out on the way, `OccursAfter` when a tail would be bound inside itself.
+#![tactic(auto)]
 
 pub mod different;
 pub mod nothing_bound;

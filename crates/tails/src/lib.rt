@@ -5,6 +5,7 @@
 //     one_tail        the child where only one tail is an unknown
 //
 // In specs/, `Due` says what a child of a split is to be, `Value` and `Bound` what a tail is bound to.
+#![tactic(auto)]
 
 pub mod bound_tail;
 pub mod joined_members;

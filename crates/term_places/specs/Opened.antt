@@ -79,8 +79,8 @@ module _ {h : Held} (placed : Placed h) where
     unfolding valued values value
     goes i l s e =
         record {
-          known = rw e (ground_known (placed.inside i l) (placed.ground i l));
-          same = ap (valued h) e ∙ value_ground (values h) (placed.ground i l) ∙ sym (ap (value (values h)) s);
+          known = rw e (ground_known (placed.inside i l) (placed.grounded i l));
+          same = ap (valued h) e ∙ value_ground (values h) (placed.grounded i l) ∙ sym (ap (value (values h)) s);
         }
 
   pub resolving : (p : ℕ) → p < length h.words → Resolved h p

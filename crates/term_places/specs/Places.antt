@@ -57,7 +57,7 @@ valued h p = value (values h) (tree h.bounds h.arities h.words p)
 pub record Placed (h : Held) : Type 0 where
   pub terms : Terms h.bounds h.arities (length h.starts) h.words
   pub inside : (i : ℕ) → i < length h.starts → get_or h.starts i 0 < length h.words
-  pub ground : (i : ℕ) → i < length h.starts → Formed h.arities 0 (values h i)
+  pub grounded : (i : ℕ) → i < length h.starts → Formed h.arities 0 (values h i)
 
 -- a place where no unknown stands
 pub record Known (h : Held) (p : ℕ) : Type 0 where

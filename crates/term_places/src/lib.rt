@@ -6,6 +6,7 @@
 //
 // In specs/, `Places` and `Classes` have what a client's contracts cite: what stands at a place, what labels say and a comparison tells. The other files are
 // laws of these: `Standing`, `Opened`, `Membership` and `Arguments` of a place, `Relabelled` and `Since` of labels.
+#![tactic(auto)]
 
 pub mod classes;
 pub mod places;

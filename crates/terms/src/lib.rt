@@ -7,6 +7,7 @@
 //
 // The code: `bounds` has the numbers, `kind` what a word stands for, and `refusal` what is told where a call is refused. Crate `checks` tests lent words, and `walks`
 // goes through them.
+#![tactic(auto)]
 
 pub mod bounds;
 pub mod kind;

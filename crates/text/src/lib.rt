@@ -1,5 +1,6 @@
 // The text form of questions and answer lists: the keys that the reader compares with and the writer writes. The definitions are in
 // specs/: `Keys` has the same keys as bytes, `Text` the text of numbers, terms and questions, `AnswerText` that of answer lists.
+#![tactic(auto)]
 
 pub const EDITION: [u8; 8] = *b"edition=";
 

@@ -4,6 +4,7 @@
 //     node    dead ends passed, the way back, a node that is met, and the ends
 //
 // In specs/, `DueNode` says what becomes of a node; `Loans` what a run is lent, and what its outcome tells.
+#![tactic(auto)]
 
 pub mod node;
 pub mod number;

@@ -25,10 +25,10 @@ sound b proper q good l = scan_each b l (visits-true b q (answers_worded proper 
 pub complete : (b : Bounds) (q : Question) → Good b q → (l : Loan) → (ran b q l).end ≡ Done
     → (table : List ℕ) (σ : Values) → GroundValues table σ → Solves σ q.equations → Any (Fits b q table σ) (ran b q l).answers
 unfolding ran
-complete b q good l done table σ ground h =
+complete b q good l done table σ grounded h =
     scan-some b
     (visits_none_lost b q table σ l.depth (l.depth + 2) 0 (root q) (kept-root q good.formed) (omega arith) (omega arith)
-    (record { values = σ; ground = ground; same = λ i k. refl; meets = meets-root q h })) l refl done
+    (record { values = σ; grounded = grounded; same = λ i k. refl; meets = meets-root q h })) l refl done
 
 -- values that fit a true answer solve the question: on its own unknowns they are values that meet the answer
 pub fit_solves : {b : Bounds} {table : List ℕ} (q : Question) → Good b q → {σ : Values} {answers : List (List ℕ)} → All (IsTrue b q) answers → Any (Fits b q table σ) answers

@@ -61,14 +61,14 @@ module _ (b : Bounds) (q : Question) where
 
   module _ (table : List ℕ) (σ : Values) where
     farther : {n m : ℕ} {τ : Values} {node : Node} → n ≤ m → ((i : ℕ) → i < n → τ i ≡ σ i) → Reaches table m τ node → Reaches table n σ node
-    farther l s r = record { values = r.values; ground = r.ground; same = λ i h. r.same i (omega arith) ∙ s i h; meets = r.meets }
+    farther l s r = record { values = r.values; grounded = r.grounded; same = λ i h. r.same i (omega arith) ∙ s i h; meets = r.meets }
 
     fits-answer : (st : State) → Kept q.arities q.unknowns st → Reaches table q.unknowns σ (live st) → st.pending ≡ [] → st.pile ≡ [] → st.next ≤ b.path_unknowns
         → Any (Fits b q table σ) (found b (answer_by st.pending st.pile st.bindings))
     unfolding answer_by found states
     fits-answer st k r e f l =
         rw (e, f)
-        (here (record { values = r.values; ground = r.ground; same = r.same; meets = record { states = states st.bindings l k.bindings; met = of_live (λ m. m.bindings) r.meets } }))
+        (here (record { values = r.values; grounded = r.grounded; same = r.same; meets = record { states = states st.bindings l k.bindings; met = of_live (λ m. m.bindings) r.meets } }))
 
     pub visits_none_lost : (lent levels d : ℕ) (node : Node) → KeptNode q.arities q.unknowns node → d ≤ suc lent → lent + 2 ≤ d + levels → Reaches table q.unknowns σ node
         → Any (λ v. v.depth ≤ lent → v.next ≤ b.path_unknowns → Any (Fits b q table σ) (found b v.answer)) (visits levels d node)
@@ -77,7 +77,7 @@ module _ (b : Bounds) (q : Question) where
     visits_none_lost lent (suc levels) d dead k h g r = of_dead r.meets
     visits_none_lost lent (suc levels) d (live st) (kept_live k) h g r =
         cases (ltb lent d) (λ e. here (λ l. let z = ltb-true lent d e in absurd (omega arith)))
-        (λ e. go (complete_children r.values r.ground k (of_live (λ m. m) r.meets))
+        (λ e. go (complete_children r.values r.grounded k (of_live (λ m. m) r.meets))
         (λ c kept s. visits_none_lost lent levels (suc d) c kept (let z = ltb-false lent d e in omega arith) (omega arith) s))
       where
         Found : Visit → Type 0

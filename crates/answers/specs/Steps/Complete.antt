@@ -49,16 +49,16 @@ module _ (σ : Values) where
   complete_pairwise (more t ts) term.none h = none
   complete_pairwise (more t ts) (more u us) (≈more h hs) = both h (complete_pairwise ts us hs)
 
-  module _ {arities table : List ℕ} (ground : GroundValues table σ) where
+  module _ {arities table : List ℕ} (grounded : GroundValues table σ) where
     complete_take : {n : ℕ} {l r : Term} {k : Step} {st : State} → Formed arities st.next l → Formed arities st.next r → Kept arities n st → Stepped l r k
         → value σ l ≈ value σ r → MeetsState σ st → Any (Reaches table st.next σ) (take k l r st)
     unfolding take arguments value kernel
-    complete_take f g kept drops_unknown h m = here (stay ground (meets_live m))
-    complete_take f g kept drops_empty h m = here (stay ground (meets_live m))
-    complete_take {st = st} f g kept (binds {x = x} {t = t} {k = k} s o) h m = rw (take_bind k st s) (here (stay ground (complete_bound σ x t st m (complete_sided s h) o)))
-    complete_take {st = st} f g kept (postpones {x = x} {t = t} {k = k} s o) h m = rw (take_postpone k st s) (here (stay ground (meets_live (after-piled σ x t (complete_sided s h) m))))
-    complete_take f g kept (decomposes {ts = ts} {us = us}) h m = here (stay ground (meets_live (after_added σ (complete_pairwise ts us (functor_parts h).1) m)))
-    complete_take f g kept (splits d) h m = complete_split σ f g kept d ground h m
+    complete_take f g kept drops_unknown h m = here (stay grounded (meets_live m))
+    complete_take f g kept drops_empty h m = here (stay grounded (meets_live m))
+    complete_take {st = st} f g kept (binds {x = x} {t = t} {k = k} s o) h m = rw (take_bind k st s) (here (stay grounded (complete_bound σ x t st m (complete_sided s h) o)))
+    complete_take {st = st} f g kept (postpones {x = x} {t = t} {k = k} s o) h m = rw (take_postpone k st s) (here (stay grounded (meets_live (after-piled σ x t (complete_sided s h) m))))
+    complete_take f g kept (decomposes {ts = ts} {us = us}) h m = here (stay grounded (meets_live (after_added σ (complete_pairwise ts us (functor_parts h).1) m)))
+    complete_take f g kept (splits d) h m = complete_split σ f g kept d grounded h m
     complete_take f g kept (dead_buried {x = x} {t = t} s b) h m = absurd (buried_never σ x t b (complete_sided s h))
     complete_take f g kept (dead_functors d) h m = absurd (d (functor_parts h).0)
     complete_take f g kept (dead_clash c) h m = absurd (clash_never σ c h)
@@ -68,7 +68,7 @@ module _ (σ : Values) where
         → All (HoldsEntry σ) (e ∷ es) → All (HoldsBinding σ) st.bindings → Any (Reaches table st.next σ) (join (e ∷ es) st)
     unfolding join renewed value kernel
     complete_join e es st f g h k =
-        here (renew ground (ground x)
+        here (renew grounded (grounded x)
         (complete_bound τ x (over ms N) _ (record { pending = none; pile = All-map (λ d p. p.1) (All-others x pile_met); bindings = bindings-met }) holds
         (never_dead τ x (over ms N) holds (other_tail ms N refl (new_apart below)))))
       where

@@ -45,13 +45,13 @@ meets_new σ v {st} k m =
 -- values that meet a node and are σ's on the first n unknowns, ground over the same table
 pub record Reaches (table : List ℕ) (n : ℕ) (σ : Values) (node : Node) : Type 0 where
   pub values : Values
-  pub ground : GroundValues table values
+  pub grounded : GroundValues table values
   pub same : (i : ℕ) → i < n → values i ≡ σ i
   pub meets : MeetsNode values node
 
 -- the same values, or one more
 pub stay : {table : List ℕ} {n : ℕ} {σ : Values} {node : Node} → GroundValues table σ → MeetsNode σ node → Reaches table n σ node
-stay {σ = σ} g m = record { values = σ; ground = g; same = λ i l. refl; meets = m }
+stay {σ = σ} g m = record { values = σ; grounded = g; same = λ i l. refl; meets = m }
 
 pub renew : {table : List ℕ} {n : ℕ} {σ : Values} {v : Term} {node : Node} → GroundValues table σ → Ground table v → MeetsNode (given n v σ) node → Reaches table n σ node
-renew {n = n} {σ} {v} g f m = record { values = given n v σ; ground = ground_given n f g; same = given_other n v σ; meets = m }
+renew {n = n} {σ} {v} g f m = record { values = given n v σ; grounded = ground_given n f g; same = given_other n v σ; meets = m }

@@ -92,10 +92,10 @@ module _ (σ : Values) where
 pub complete_split : {arities table : List ℕ} {n : ℕ} (σ : Values) {t u : Term} {k : Tails} {st : State} → Formed arities st.next t → Formed arities st.next u → Kept arities n st
     → Tailed (kernel t) (kernel u) k → GroundValues table σ → value σ t ≈ value σ u → MeetsState σ st → Any (Reaches table st.next σ) (split k t u st)
 unfolding number
-complete_split {arities} σ {t} {u} {k} {st} f g kept d ground h m =
+complete_split {arities} σ {t} {u} {k} {st} f g kept d grounded h m =
     split-any τ k t u (value τ (kernel t)) (value τ (kernel u)) st (tail_of τ f).bare (tail_of τ g).bare sets.each_t sets.each_u
     (λ ps qs c e.
-    renew ground (formed_shared (σ y) (ground x))
+    renew grounded (formed_shared (σ y) (grounded x))
     (complete_settle τ (joining ps) (joining qs) (All-append (best_equations (λ t u l. l) c) (best_equations (λ u t l. ≈sym l) e)) (meets_new σ v kept m) (tail_of τ f) (tail_of τ g) new
     (best_joining c) (best_joining e) sets d))
   where

@@ -36,10 +36,10 @@ module _ (q : Posed) (l : Lending) (o : Outcome) (gave : run_told q l ≡ gives 
   answers_true = rw granted.outcome (demand.every_answer-true edition_one edition_one_proper (asked q) good (loan_of l))
 
   pub done_exactly : end_number o.end ≡ 0 → (table : List ℕ) (σ : Values) → GroundValues table σ → Solves σ (asked q).equations ↔ Any (Fits edition_one (asked q) table σ) o.answers
-  done_exactly d table σ ground = rw granted.outcome (demand.demand_two edition_one edition_one_proper (asked q) good (loan_of l) (done d) table σ ground)
+  done_exactly d table σ grounded = rw granted.outcome (demand.demand_two edition_one edition_one_proper (asked q) good (loan_of l) (done d) table σ grounded)
 
   pub done-without_answers : end_number o.end ≡ 0 → length o.answers ≡ 0 → (table : List ℕ) (σ : Values) → GroundValues table σ → Solves σ (asked q).equations → ⊥
-  done-without_answers d z table σ ground h = go o.answers z ((done_exactly d table σ ground).0 h)
+  done-without_answers d z table σ grounded h = go o.answers z ((done_exactly d table σ grounded).0 h)
     where
       go : (answers : List (List ℕ)) → length answers ≡ 0 → Any (Fits edition_one (asked q) table σ) answers → ⊥
       go [] e h = elim h [ ]

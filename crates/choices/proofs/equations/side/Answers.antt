@@ -1,0 +1,10 @@
+use Rattle.choices.proofs.EquationsWritten.{side-parts, side-written}
+use Rattle.choices.proofs.equations.side.Goals as goal
+
+pub replace-requires : goal.replace-requires
+replace-requires c = side-parts c.requires c.wide-p.ensures c.wide-q.ensures
+
+pub returns : goal.returns
+returns c =
+    let wide-told = c.wide-p.ensures in
+    side-written c.requires wide-told c.wide-q.ensures _ c.replace.ensures.value c.replace.ensures.room_after

@@ -1,0 +1,287 @@
+use mathlib.Core.Path.{◌≡◌, ◌∙◌}
+use native.Mathlib.Omega.{arith}
+use Rattle.term_places.specs.Places.{member_of}
+use Rattle.term_places.specs.Opened.{resolvable}
+use Rattle.term_places.specs.Membership.{rest_smaller}
+use Rattle.term_places.specs.Since.{since_length, settled_since, settled-told}
+use Rattle.compare.proofs.Meeting.{meeting_start, meeting_end, meeting_opened, meeting_at, meeting_asks, meeting_falls, meeting_yes, meeting_no}
+use Rattle.compare.proofs.Matching.{matching_start, matching_end, matching_opened, matching_at, matching_asks, matching_falls, matching_on, matching_no}
+use Rattle.compare.proofs.Arguing.{arguing_differ, arguing_start, arguing_end, left_inside, right_inside, arguing_asks, arguing_falls, arguing_no, arguing_on}
+use Rattle.compare.proofs.Comparing.{kernels_fall, compare_kernels, kernels_no, compare_members, members_no, compare_back, compared, same_label, settled_apart, not_same, now_same}
+use Rattle.compare.proofs.compare.+compare_each_meets_kernels_meets_same.Goals as goal
+
+-- ---- compare
+pub compare-kernel-k-requires : goal.compare-kernel-k-requires
+compare-kernel-k-requires t c = record { placed = c.requires.comparing.placed; known = c.requires.comparing.left }
+
+pub compare-kernel-l-requires : goal.compare-kernel-l-requires
+compare-kernel-l-requires t c = record { placed = c.requires.comparing.placed; known = c.requires.comparing.right }
+
+pub compare-kernels-requires : goal.compare-kernels-requires
+compare-kernels-requires t c =
+    let k = c.kernel-k.ensures in
+    let l = c.kernel-l.ensures in
+    (omega (arith, c.decreases, kernels_fall k l), (compare_kernels c.requires.comparing k l, c.requires.settled))
+
+pub compare-each_meets-requires : goal.compare-each_meets-requires
+compare-each_meets-requires t c = (
+  omega (arith, c.decreases),
+  (
+    compare_members c.requires.comparing c.kernel-k.ensures c.kernel-l.ensures c.kernels.ensures,
+    settled-told c.requires.comparing.classes c.kernels.ensures c.requires.settled,
+  ),
+)
+
+pub compare-covers-requires : goal.compare-covers-requires
+compare-covers-requires t c =
+    compare_back c.requires.comparing c.kernel-k.ensures c.kernel-l.ensures c.kernels.ensures c.if-kernels.true
+    c.each_meets.ensures c.if-each_meets.true
+
+pub compare-shape_of-labels-then-each_meets : goal.compare-shape_of-labels-then-each_meets
+compare-shape_of-labels-then-each_meets t c =
+    c.each_meets.auto.labels ∙ c.kernels.auto.labels
+
+pub compare-returns-then-each_meets : goal.compare-returns-then-each_meets
+compare-returns-then-each_meets t c =
+    compared c.requires.comparing c.kernel-k.ensures c.kernel-l.ensures c.kernels.ensures c.if-kernels.true
+    c.each_meets.ensures c.if-each_meets.true c.covers.ensures
+
+pub compare-shape_of-labels-then-kernels : goal.compare-shape_of-labels-then-kernels
+compare-shape_of-labels-then-kernels t c = c.each_meets.auto.labels ∙ c.kernels.auto.labels
+
+pub compare-returns-then-kernels : goal.compare-returns-then-kernels
+compare-returns-then-kernels t c =
+    members_no c.requires.comparing c.kernel-k.ensures c.kernel-l.ensures c.kernels.ensures c.if-kernels.true
+    c.each_meets.ensures c.if-each_meets.false
+
+pub compare-shape_of-labels : goal.compare-shape_of-labels
+compare-shape_of-labels t c = c.kernels.auto.labels
+
+pub compare-returns : goal.compare-returns
+compare-returns t c =
+    kernels_no c.requires.comparing c.kernel-k.ensures c.kernel-l.ensures c.kernels.ensures c.if-kernels.false
+
+pub each_meets-loop-x-init : goal.each_meets-loop-x-init
+each_meets-loop-x-init t c = matching_start c.requires.comparing
+
+pub each_meets-offset_bounds-words-x : goal.each_meets-offset_bounds-words-x
+each_meets-offset_bounds-words-x t c = let k = c.loop-x.invariant.at in omega arith
+
+pub each_meets-bounds-words-x : goal.each_meets-bounds-words-x
+each_meets-bounds-words-x t c = c.loop-x.invariant.at.inside
+
+pub each_meets-overflow_add-x : goal.each_meets-overflow_add-x
+each_meets-overflow_add-x t c = let o = matching_opened c.loop-x.invariant c.loop-x-test.true in omega arith
+
+pub each_meets-resolve-requires : goal.each_meets-resolve-requires
+each_meets-resolve-requires t c = let i = c.loop-x.invariant in resolvable i.placed _ (matching_opened i c.loop-x-test.true).next
+
+pub each_meets-meets-requires : goal.each_meets-meets-requires
+unfolding member_of
+each_meets-meets-requires t c =
+    let i = c.loop-x.invariant in
+    let e = c.loop-x-test.true in
+    rw c.resolve.ensures (omega (arith, c.decreases, matching_falls i e), (matching_asks i e, settled_since i.since c.requires.settled))
+
+pub each_meets-rest-x-requires : goal.each_meets-rest-x-requires
+each_meets-rest-x-requires t c = matching_at c.loop-x.invariant c.loop-x-test.true
+
+pub each_meets-loop-x-smaller : goal.each_meets-loop-x-smaller
+each_meets-loop-x-smaller t c =
+    rw c.rest-x.ensures (rest_smaller (matching_opened c.loop-x.invariant c.loop-x-test.true))
+
+pub each_meets-loop-x-preserved : goal.each_meets-loop-x-preserved
+unfolding member_of
+each_meets-loop-x-preserved t c =
+    let m = rw c.resolve.ensures at c.meets.ensures in
+    rw c.rest-x.ensures (matching_on c.loop-x.invariant c.loop-x-test.true m c.if-meets.true)
+
+pub each_meets-shape_of-labels-else-meets : goal.each_meets-shape_of-labels-else-meets
+each_meets-shape_of-labels-else-meets t c = c.meets.auto.labels ∙ since_length c.loop-x.invariant.since
+
+pub each_meets-returns-else-meets : goal.each_meets-returns-else-meets
+unfolding member_of
+each_meets-returns-else-meets t c =
+    let m = rw c.resolve.ensures at c.meets.ensures in
+    matching_no c.loop-x.invariant c.loop-x-test.true m c.if-meets.false
+
+pub each_meets-shape_of-labels : goal.each_meets-shape_of-labels
+each_meets-shape_of-labels t c = since_length c.loop-x.invariant.since
+
+pub each_meets-returns : goal.each_meets-returns
+each_meets-returns t c = matching_end c.loop-x.invariant c.loop-x-test.false
+
+pub kernels-offset_bounds-words-p : goal.kernels-offset_bounds-words-p
+kernels-offset_bounds-words-p t c = let k = c.requires.comparing_kernels.comparing.left in omega arith
+
+pub kernels-bounds-words-p : goal.kernels-bounds-words-p
+kernels-bounds-words-p t c = c.requires.comparing_kernels.comparing.left.inside
+
+pub kernels-offset_bounds-words-q : goal.kernels-offset_bounds-words-q
+kernels-offset_bounds-words-q t c = let k = c.requires.comparing_kernels.comparing.right in omega arith
+
+pub kernels-bounds-words-q : goal.kernels-bounds-words-q
+kernels-bounds-words-q t c = let a = c.requires.comparing_kernels.comparing in omega (arith, a.left.inside, a.right.inside)
+
+pub kernels-returns-then-word-words : goal.kernels-returns-then-word-words
+kernels-returns-then-word-words t c = arguing_differ c.requires.comparing_kernels c.if-word-words.true
+
+pub kernels-overflow_add-x : goal.kernels-overflow_add-x
+kernels-overflow_add-x t c = let k = c.requires.comparing_kernels.comparing.left in omega arith
+
+pub kernels-overflow_add-y : goal.kernels-overflow_add-y
+kernels-overflow_add-y t c = let k = c.requires.comparing_kernels.comparing.right in omega arith
+
+pub kernels-loop-due-init : goal.kernels-loop-due-init
+kernels-loop-due-init t c = rw c.terms_after-due.ensures (arguing_start c.requires.comparing_kernels c.if-word-words.false)
+
+pub kernels-resolve-requires : goal.kernels-resolve-requires
+kernels-resolve-requires t c = let i = c.loop-due.invariant in resolvable i.placed _ (left_inside i c.loop-due-test.true)
+
+pub kernels-resolve-requires-in-loop-due : goal.kernels-resolve-requires-in-loop-due
+kernels-resolve-requires-in-loop-due t c = let i = c.loop-due.invariant in resolvable i.placed _ (right_inside i c.loop-due-test.true)
+
+pub kernels-same-requires : goal.kernels-same-requires
+kernels-same-requires t c =
+    let i = c.loop-due.invariant in
+    let z = c.loop-due-test.true in
+    rw (c.resolve.ensures, c.resolve-in-loop-due.ensures)
+    (omega (arith, c.decreases, arguing_falls i z), (arguing_asks i z, settled_since i.since c.requires.settled))
+
+pub kernels-term_end-x-requires : goal.kernels-term_end-x-requires
+kernels-term_end-x-requires t c =
+    let i = c.loop-due.invariant in record { unknowns = _; terms = i.placed.terms; inside = left_inside i c.loop-due-test.true }
+
+pub kernels-term_end-y-requires : goal.kernels-term_end-y-requires
+kernels-term_end-y-requires t c =
+    let i = c.loop-due.invariant in record { unknowns = _; terms = i.placed.terms; inside = right_inside i c.loop-due-test.true }
+
+pub kernels-loop-due-smaller : goal.kernels-loop-due-smaller
+kernels-loop-due-smaller t c = let z = c.loop-due-test.true in omega arith
+
+pub kernels-loop-due-preserved : goal.kernels-loop-due-preserved
+kernels-loop-due-preserved t c =
+    let s = rw (c.resolve.ensures, c.resolve-in-loop-due.ensures) at c.same.ensures in
+    rw (c.term_end-x.ensures, c.term_end-y.ensures) (arguing_on c.loop-due.invariant c.loop-due-test.true s c.if-same.true)
+
+pub kernels-shape_of-labels-else-same : goal.kernels-shape_of-labels-else-same
+kernels-shape_of-labels-else-same t c = c.same.auto.labels ∙ since_length c.loop-due.invariant.since
+
+pub kernels-returns-else-same : goal.kernels-returns-else-same
+kernels-returns-else-same t c =
+    let s = rw (c.resolve.ensures, c.resolve-in-loop-due.ensures) at c.same.ensures in
+    arguing_no c.loop-due.invariant c.loop-due-test.true s c.if-same.false
+
+pub kernels-shape_of-labels : goal.kernels-shape_of-labels
+kernels-shape_of-labels t c = since_length c.loop-due.invariant.since
+
+pub kernels-returns : goal.kernels-returns
+kernels-returns t c = let z : c.loop-due.due ≡ 0 = omega arith in arguing_end c.loop-due.invariant z
+
+pub meets-loop-y-init : goal.meets-loop-y-init
+meets-loop-y-init t c = meeting_start c.requires.comparing
+
+pub meets-offset_bounds-words-y : goal.meets-offset_bounds-words-y
+meets-offset_bounds-words-y t c = let k = c.loop-y.invariant.at in omega arith
+
+pub meets-bounds-words-y : goal.meets-bounds-words-y
+meets-bounds-words-y t c = c.loop-y.invariant.at.inside
+
+pub meets-overflow_add-y : goal.meets-overflow_add-y
+meets-overflow_add-y t c = let o = meeting_opened c.loop-y.invariant c.loop-y-test.true in omega arith
+
+pub meets-resolve-requires : goal.meets-resolve-requires
+meets-resolve-requires t c = let i = c.loop-y.invariant in resolvable i.placed _ (meeting_opened i c.loop-y-test.true).next
+
+pub meets-same-requires : goal.meets-same-requires
+unfolding member_of
+meets-same-requires t c =
+    let i = c.loop-y.invariant in
+    let e = c.loop-y-test.true in
+    rw c.resolve.ensures (omega (arith, c.decreases, meeting_falls i e), (meeting_asks i e, settled_since i.since c.requires.settled))
+
+pub meets-rest-y-requires : goal.meets-rest-y-requires
+meets-rest-y-requires t c = meeting_at c.loop-y.invariant c.loop-y-test.true
+
+pub meets-loop-y-smaller-then-same : goal.meets-loop-y-smaller-then-same
+meets-loop-y-smaller-then-same t c =
+    rw c.rest-y.ensures (rest_smaller (meeting_opened c.loop-y.invariant c.loop-y-test.true))
+
+pub meets-loop-y-preserved-then-same : goal.meets-loop-y-preserved-then-same
+unfolding member_of
+meets-loop-y-preserved-then-same t c =
+    let s = rw c.resolve.ensures at c.same.ensures in
+    rw c.rest-y.ensures (meeting_yes c.loop-y.invariant c.loop-y-test.true s c.if-same.true)
+
+pub meets-rest-y-requires-else-same : goal.meets-rest-y-requires-else-same
+meets-rest-y-requires-else-same t c = meeting_at c.loop-y.invariant c.loop-y-test.true
+
+pub meets-loop-y-smaller : goal.meets-loop-y-smaller
+meets-loop-y-smaller t c =
+    rw c.rest-y-else-same.ensures (rest_smaller (meeting_opened c.loop-y.invariant c.loop-y-test.true))
+
+pub meets-loop-y-preserved : goal.meets-loop-y-preserved
+unfolding member_of
+meets-loop-y-preserved t c =
+    let s = rw c.resolve.ensures at c.same.ensures in
+    rw c.rest-y-else-same.ensures (meeting_no c.loop-y.invariant c.loop-y-test.true s c.if-same.false)
+
+pub meets-shape_of-labels : goal.meets-shape_of-labels
+meets-shape_of-labels t c = since_length c.loop-y.invariant.since
+
+pub meets-returns : goal.meets-returns
+meets-returns t c = meeting_end c.loop-y.invariant c.loop-y-test.false
+
+-- ---- same
+pub same-offset_bounds-labels-p : goal.same-offset_bounds-labels-p
+same-offset_bounds-labels-p t c = let a = c.requires.comparing in omega (arith, a.classes.long, a.left.inside)
+
+pub same-bounds-labels-p : goal.same-bounds-labels-p
+same-bounds-labels-p t c = let a = c.requires.comparing in rw a.classes.long a.left.inside
+
+pub same-offset_bounds-labels-q : goal.same-offset_bounds-labels-q
+same-offset_bounds-labels-q t c = let a = c.requires.comparing in omega (arith, a.classes.long, a.right.inside)
+
+pub same-bounds-labels-q : goal.same-bounds-labels-q
+same-bounds-labels-q t c = let a = c.requires.comparing in rw a.classes.long a.right.inside
+
+pub same-returns-then-labels-p : goal.same-returns-then-labels-p
+same-returns-then-labels-p t c = same_label c.requires.comparing c.if-labels-p.true
+
+pub same-returns-then-both_settled : goal.same-returns-then-both_settled
+same-returns-then-both_settled t c =
+    settled_apart c.requires.comparing c.requires.settled c.both_settled.ensures c.if-both_settled.true c.if-labels-p.false
+
+pub same-compare-requires : goal.same-compare-requires
+same-compare-requires t c =
+    (omega (arith, c.decreases), (c.requires.comparing, c.requires.settled))
+
+pub same-offset_bounds-labels-p-then-compare : goal.same-offset_bounds-labels-p-then-compare
+same-offset_bounds-labels-p-then-compare t c =
+    let a = c.requires.comparing in omega (arith, c.compare.ensures.classes.long, a.left.inside)
+
+pub same-bounds-labels-p-then-compare : goal.same-bounds-labels-p-then-compare
+same-bounds-labels-p-then-compare t c =
+    let a = c.requires.comparing in rw c.compare.ensures.classes.long a.left.inside
+
+pub same-offset_bounds-labels-q-then-compare : goal.same-offset_bounds-labels-q-then-compare
+same-offset_bounds-labels-q-then-compare t c =
+    let a = c.requires.comparing in omega (arith, c.compare.ensures.classes.long, a.right.inside)
+
+pub same-bounds-labels-q-then-compare : goal.same-bounds-labels-q-then-compare
+same-bounds-labels-q-then-compare t c =
+    let a = c.requires.comparing in rw c.compare.ensures.classes.long a.right.inside
+
+pub same-shape_of-labels-then-compare : goal.same-shape_of-labels-then-compare
+same-shape_of-labels-then-compare t c = c.join.auto.labels ∙ c.compare.auto.labels
+
+pub same-returns-then-compare : goal.same-returns-then-compare
+same-returns-then-compare t c =
+    now_same c.requires.comparing c.compare.ensures c.if-compare.true c.join.ensures
+
+pub same-shape_of-labels : goal.same-shape_of-labels
+same-shape_of-labels t c = c.compare.auto.labels
+
+pub same-returns : goal.same-returns
+same-returns t c =
+    not_same c.requires.comparing c.compare.ensures c.if-compare.false

@@ -1,0 +1,5 @@
+-- `mensorique_c::mensorique_solves`: the values are tested, and the answer told.
+use Rattle.mensorique_c.proofs.mensorique_solves.Goals as goal
+
+pub returns : goal.returns
+returns c = rw (← c.solves-solving.ensures) c.tell_solving.ensures

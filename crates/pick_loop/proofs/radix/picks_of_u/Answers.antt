@@ -1,0 +1,8 @@
+use Rattle.pick_loop.proofs.Radices.{left_closed, left_opened}
+use Rattle.pick_loop.proofs.radix.picks_of_u.Goals as goal
+
+pub returns-in-Neither : goal.returns-in-Neither
+returns-in-Neither c = left_closed _ _ c.in-Neither.in-Neither-own.keys1
+
+pub returns-in-Left : goal.returns-in-Left
+returns-in-Left c = left_opened _ _ c.in-Left.in-Left-own.keys2

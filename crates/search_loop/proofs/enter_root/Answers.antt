@@ -1,0 +1,28 @@
+-- `root::enter_root`: `RootRun` says what is noted of the root, and that the search then goes on.
+use mathlib.Core.Path.{sym, refl}
+use Prim.Native.Nat.{◌+◌}
+use native.Mathlib.Omega.{arith}
+use lib.Seq.{length-take-le}
+use Rattle.room.specs.Layout.{HEADER}
+use Rattle.search_loop.proofs.RootRun.{row_fits, root_notable, root-held, root_space}
+use Rattle.search_loop.proofs.enter_root.Goals as goal
+
+pub slice_bounds-note-end : goal.slice_bounds-note-end
+slice_bounds-note-end c = omega (arith, row_fits c.requires.1.suits)
+
+pub slice_bounds-note-end-2 : goal.slice_bounds-note-end-2
+slice_bounds-note-end-2 c = sym (length-take-le (c.args.limits.size + HEADER) c.args.room.now (omega (arith, row_fits c.requires.1.suits)))
+
+pub note-requires : goal.note-requires
+note-requires c = root_notable c.requires.1 refl
+
+pub search_on-requires : goal.search_on-requires
+search_on-requires c =
+    (c.requires.0, root-held c.requires.1 refl (c.note.ensures.value, c.note.ensures.answers_after) c.in-Held.is)
+
+pub returns-in-Held : goal.returns-in-Held
+returns-in-Held c =
+    λ to S. c.search_on.ensures to (root-held S refl (c.note.ensures.value, c.note.ensures.answers_after) c.in-Held.is)
+
+pub returns-in-Space : goal.returns-in-Space
+returns-in-Space c = λ to S. root_space S refl (c.note.ensures.value, c.note.ensures.answers_after) c.in-Space.is

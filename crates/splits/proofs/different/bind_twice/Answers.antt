@@ -1,0 +1,26 @@
+use Rattle.tails.proofs.Making.{not_large}
+use Rattle.splits.proofs.Twice.{first-parts, second_parts, twice-made, twice-kept, twice_large}
+use mathlib.Core.Path.{ap}
+use Rattle.rows.specs.Made.{of_sized}
+use Rattle.splits.proofs.different.bind_twice.Goals as goal
+
+pub bound-requires : goal.bound-requires
+bound-requires c = first-parts c.requires.parts
+
+pub bind_again-requires : goal.bind_again-requires
+unfolding of_sized
+bind_again-requires c =
+    second_parts c.requires.parts c.bound.ensures (ap of_sized c.in-Live.is)
+
+pub returns-in-Live : goal.returns-in-Live
+unfolding of_sized
+returns-in-Live c =
+    let bound-told = c.bound.ensures in
+    let bind-again-told = c.bind_again.ensures in
+    record { makes = λ p s r D. twice-made D bound-told (ap of_sized c.in-Live.is) bind-again-told; kept = twice-kept c.requires.parts bound-told bind-again-told }
+
+pub returns-in-Large : goal.returns-in-Large
+unfolding of_sized
+returns-in-Large c =
+    let bound-told = c.bound.ensures in
+    record { makes = λ p s r D. twice_large D bound-told (not_large (ap of_sized c.in-Large.is)); kept = bound-told.kept }

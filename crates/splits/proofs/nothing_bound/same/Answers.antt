@@ -1,0 +1,41 @@
+use Rattle.tails.proofs.OpenSplit.{numbers}
+use Rattle.splits.proofs.NothingBound.{s-place, s_apart, plain-parts, plain, keep-parts}
+use Rattle.splits.proofs.SameTail.{due-laid, entry-within, entry_apart, same_full, same_made}
+use Rattle.tails.proofs.Making.{child-made}
+use Rattle.choices.specs.OpenParent.{news}
+use native.Mathlib.Omega.{arith}
+use mathlib.Core.Path.{refl}
+use Rattle.rows.specs.Made.{of_sized}
+use Rattle.splits.proofs.nothing_bound.same.Goals as goal
+
+pub overflow_add-by-2 : goal.overflow_add-by-2
+overflow_add-by-2 c = let N = numbers c.requires.due.opened in omega arith
+
+pub offset_bounds-room-by : goal.offset_bounds-room-by
+offset_bounds-room-by c = let h = s-place (due-laid c.requires.due c.lay_entry-l.ensures) in omega arith
+
+pub bounds-room-by : goal.bounds-room-by
+bounds-room-by c = let h = s-place (due-laid c.requires.due c.lay_entry-l.ensures) in omega arith
+
+pub equations-requires : goal.equations-requires
+equations-requires c =
+    let lay-entry-told = c.lay_entry-l.ensures in
+    plain-parts (due-laid c.requires.due lay-entry-told) _ (s-place (due-laid c.requires.due lay-entry-told)) (s_apart (due-laid c.requires.due lay-entry-told) 1 (omega arith))
+
+pub keep-requires : goal.keep-requires
+keep-requires c =
+    let lay-entry-told = c.lay_entry-l.ensures in
+    let equations-told = c.equations.ensures in
+    keep-parts (due-laid c.requires.due lay-entry-told) (news c.requires.p) (plain (due-laid c.requires.due lay-entry-told) _ (s-place (due-laid c.requires.due lay-entry-told)) (s_apart (due-laid c.requires.due lay-entry-told) 1 (omega arith)) refl (rw c.in-Done.is at equations-told)) (entry-within c.requires.due lay-entry-told) (entry_apart c.requires.due lay-entry-told)
+
+pub returns-in-Done : goal.returns-in-Done
+returns-in-Done c =
+    let lay-entry-told = c.lay_entry-l.ensures in
+    let equations-told = c.equations.ensures in
+    child-made (λ p D k. same_made D lay-entry-told k (plain (due-laid D lay-entry-told) _ (s-place (due-laid D lay-entry-told)) (s_apart (due-laid D lay-entry-told) 1 (omega arith)) refl (rw c.in-Done.is at equations-told)) c.keep.ensures)
+
+pub returns-in-Full : goal.returns-in-Full
+unfolding of_sized
+returns-in-Full c =
+    let lay-entry-told = c.lay_entry-l.ensures in
+    child-made (λ p D k. same_full D lay-entry-told k (plain (due-laid D lay-entry-told) _ (s-place (due-laid D lay-entry-told)) (s_apart (due-laid D lay-entry-told) 1 (omega arith)) refl (rw c.in-Full.is at c.equations.ensures)))

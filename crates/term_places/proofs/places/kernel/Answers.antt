@@ -1,0 +1,33 @@
+use mathlib.Core.Path.{◌∙◌, refl, sym}
+use native.Mathlib.Omega.{arith}
+use Rattle.terms.specs.Term.{kernel}
+use Rattle.term_places.specs.Opened.{opened, closed}
+use Rattle.term_places.specs.Membership.{kernel_open, rest_smaller}
+use Rattle.term_places.proofs.places.kernel.Goals as goal
+
+pub loop-x-init : goal.loop-x-init
+loop-x-init c = (c.requires.known, refl)
+
+pub offset_bounds-words-x : goal.offset_bounds-words-x
+offset_bounds-words-x c = omega arith
+
+pub bounds-words-x : goal.bounds-words-x
+bounds-words-x c = c.loop-x.invariant.0.inside
+
+pub rest-x-requires : goal.rest-x-requires
+rest-x-requires c = record { placed = c.requires.placed; inside = c.loop-x.invariant.0.inside; member = c.loop-x-test.true }
+
+pub loop-x-smaller : goal.loop-x-smaller
+loop-x-smaller c =
+    let o = opened c.requires.placed _ c.loop-x.invariant.0.inside c.loop-x-test.true in
+    rw c.rest-x.ensures (rest_smaller o)
+
+pub loop-x-preserved : goal.loop-x-preserved
+loop-x-preserved c =
+    let o = opened c.requires.placed _ c.loop-x.invariant.0.inside c.loop-x-test.true in
+    rw c.rest-x.ensures (o.rest, c.loop-x.invariant.1 ∙ kernel_open o)
+
+pub returns : goal.returns
+returns c =
+    let k = closed c.requires.placed _ c.loop-x.invariant.0 c.loop-x-test.false in
+    record { known = c.loop-x.invariant.0; closed = c.loop-x-test.false; kernel = sym (c.loop-x.invariant.1 ∙ k.kernel) }

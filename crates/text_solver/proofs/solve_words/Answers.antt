@@ -1,0 +1,22 @@
+-- `text_solver::solve_words`: the run ended and its list is printed, or its refusal.
+use mathlib.Core.Path.{sym}
+use lib.Seq.{length-take-le}
+use Rattle.printing.specs.Solved.{of_words}
+use Rattle.text_solver.proofs.Handing.{run_ended, run_refused}
+use Rattle.text_solver.proofs.solve_words.Goals as goal
+
+pub slice_bounds-answers-end : goal.slice_bounds-answers-end
+slice_bounds-answers-end c = (run_ended _ _ _ _ c.run.ensures c.in-Ended.is).0
+
+pub slice_bounds-print_list-end : goal.slice_bounds-print_list-end
+slice_bounds-print_list-end c = sym (length-take-le _ _ (run_ended _ _ _ _ c.run.ensures c.in-Ended.is).0)
+
+pub returns-in-Ended : goal.returns-in-Ended
+unfolding of_words
+returns-in-Ended c =
+    rw (run_ended _ _ _ _ c.run.ensures c.in-Ended.is).1 c.print_list.ensures
+
+pub returns-in-Refused : goal.returns-in-Refused
+unfolding of_words
+returns-in-Refused c =
+    rw (run_refused _ _ _ _ c.run.ensures c.in-Refused.is) c.print_refusal.ensures

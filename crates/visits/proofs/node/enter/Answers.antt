@@ -1,0 +1,43 @@
+-- `visits::node::enter`: the number written leaves the child's row as it was, and `OpenedChild` says what is noted of it.
+use mathlib.Core.Path.{refl, ap, ◌∙◌}
+use native.Mathlib.Omega.{arith}
+use lib.ListN.{length}
+use Rattle.room.specs.Room.{length-put}
+use Rattle.visits.proofs.OpenedChild.{place_small, note_asks, opened_held, opened_space}
+use Rattle.visits.proofs.node.enter.Goals as goal
+
+pub overflow_mul-at : goal.overflow_mul-at
+overflow_mul-at c = omega (arith, place_small c.requires.level_small c.requires.size_small)
+
+pub set_number-requires : goal.set_number-requires
+set_number-requires c = (omega (arith, c.requires.within), omega arith)
+
+pub overflow_add-child : goal.overflow_add-child
+overflow_add-child c = omega (arith, place_small c.requires.level_small c.requires.size_small)
+
+pub overflow_add-end : goal.overflow_add-end
+overflow_add-end c = omega (arith, place_small c.requires.level_small c.requires.size_small)
+
+pub offset_bounds-room-child : goal.offset_bounds-room-child
+offset_bounds-room-child c =
+    omega (arith, place_small c.requires.level_small c.requires.size_small)
+
+pub slice_bounds-note-end : goal.slice_bounds-note-end
+slice_bounds-note-end c =
+    omega (arith, c.requires.within, ap length c.set_number.ensures ∙ length-put _ _ _)
+
+pub note-requires : goal.note-requires
+note-requires c =
+    let set-number-told = c.set_number.ensures in
+    note_asks c.requires _ set-number-told c.with_nodes-more.ensures
+
+pub returns-in-Held : goal.returns-in-Held
+returns-in-Held c =
+    let both = opened_held c.requires _ c.set_number.ensures c.with_nodes-more.ensures refl (c.note.ensures.value, c.note.ensures.answers_after)
+    c.in-Held.is in
+    record { value = both.0; room_after = both.1; answers_after = both.2 }
+
+pub returns-in-Space : goal.returns-in-Space
+returns-in-Space c =
+    let both = opened_space c.requires _ c.set_number.ensures c.with_nodes-more.ensures refl (c.note.ensures.value, c.note.ensures.answers_after) c.in-Space.is in
+    record { value = both.0; room_after = both.1; answers_after = both.2 }
