@@ -1,4 +1,3 @@
-#!/usr/bin/env python3
 """Spells the repository's own antt names as Rattle's library does.
 
 usage: tools/respell.py [--list] [ROOT]
