@@ -1,10 +1,8 @@
-use mathlib.Core.Logic.{⊎_elim}
 use mathlib.Core.Path.{sym, ◌∙◌}
 use native.Mathlib.Omega.{arith}
-use borrow.Author.Tests.{not-true}
 use Rattle.room.proofs.Copying.{Running, none_run, all_run, part-parts, part_runs, part_stays, run_stops, run_goes_on}
 use Rattle.eights.specs.Block.{BLOCK}
-use Rattle.eights.proofs.copy_before.Goals.{At-loop-run-2, Left-loop-run}
+use Rattle.eights.proofs.copy_before.Goals.{At-loop-run-2, Left-loop-run, else-loop-run-test, then-loop-run-test+then-not-copy_eight}
 use Rattle.eights.proofs.copy_before.Goals as goal
 
 -- the first loop is left
@@ -13,9 +11,10 @@ eights-run : (c : Left-loop-run)
     Running a.room.now a.from a.n a.x a.to c.loop-run-test.room c.loop-run.run
 eights-run c =
     let R = c.loop-run.invariant in
-    ⊎_elim (λ w. rw w.1 R)
-    (λ w. let e = not-true w.2.result w.5.taken in part_stays R _ (w.6 ∙ rw e at w.2.ensures.1))
-    c.loop-run-test.branch
+    elim c.loop-run-test.branch [
+      else-loop-run-test w ↦ rw w.room-is R
+    | then-loop-run-test+then-not-copy_eight w ↦ part_stays R _ (w.room-is ∙ rw w.if-not-copy_eight.true at w.copy_eight.ensures.room_after)
+    ]
 
 -- the second loop is at a turn's start, or left
 running : (c : At-loop-run-2)

@@ -20,4 +20,4 @@ returns-in-Unknown c =
 
 pub returns-in-Empty : goal.returns-in-Empty
 unfolding resolved
-returns-in-Empty c = sym (ap (on_to _ _) (sym c.kind_of.ensures) ∙ stays _ _ _ c.in-Empty.in-Empty-own.keys2)
+returns-in-Empty c = sym (ap (on_to _ _) (sym c.kind_of.ensures) ∙ stays _ _ _ c.in-Empty.is)
