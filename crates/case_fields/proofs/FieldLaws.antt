@@ -4,11 +4,10 @@ use native.Mathlib.Numerals.{add-one}
 use native.Mathlib.Omega.{arith}
 use mathlib.Core.Path.{◌≡◌, refl, sym, ap, ◌∙◌}
 use mathlib.Core.List.{List, []}
-use lib.ListN.{length, get_or, take, drop, drop_of_length-le}
+use lib.ListN.{length, get_or, take, drop, drop_of_length-le, length-drop}
 use lib.Seq.{drop-cons, drop-drop, take_all, take-nil, drop-nil}
 use borrow.Author.Tests.{eq-eqb, ne_eqb}
-use Rattle.bytes.specs.Bytes.{slice, index_of}
-use Rattle.case_fields.specs.Line.{count, first_of, field_of}
+use Rattle.case_fields.specs.Line.{count, index_of, first_of, field_of}
 
 -- ---- counting
 
@@ -26,10 +25,11 @@ count-end b l i n h = rw (drop_of_length-le l h) (omega arith)
 
 -- ---- fields
 
--- a search to the end of the line looks at all that is left
-pub searched : (l : List ℕ) (from end : ℕ) → end ≡ from + index_of 9 (slice from (length l) l) → end ≡ from + index_of 9 (drop from l)
-unfolding slice
-searched l from end e = rw (take_all (length l) l (omega arith)) at e
+-- a search of all that is left
+pub searched : (l : List ℕ) (from r : ℕ) → r ≡ index_of 9 (take (length l - from) (drop from l)) → from + r ≡ from + index_of 9 (drop from l)
+searched l from r e =
+    let d = length-drop from l in
+    ap (λ (k : ℕ). from + k) (e ∙ ap (index_of 9) (take_all (length l - from) (drop from l) (omega (arith, d))))
 
 pub field_first : (l : List ℕ) (due : ℕ) → due ≤ 0 → field_of due l ≡ first_of l
 unfolding field_of

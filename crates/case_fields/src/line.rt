@@ -2,7 +2,7 @@
 ghost use Rattle.std.specs.Prelude.{◌≡◌, ◌≤◌, length, take, drop};
 ghost use Rattle.case_fields.specs.Line.{count, field_of, first_of};
 
-use bytes::scan::find;
+use crate::scan::find;
 
 pub const TAB: u8 = 9;
 
@@ -31,7 +31,7 @@ fn start(line: &[u8], n: usize) -> usize
     let mut from = 0;
     let mut due = n;
     while 0 < due {
-        let end = find(line, from, line.len(), TAB);
+        let end = from + find(&line[from..], TAB);
         if end == line.len() {
             return end;
         }
@@ -46,7 +46,7 @@ pub fn field(line: &[u8], n: usize) -> &[u8]
     ensures { result.now ≡ field_of n line.now }
 {
     let from = start(line, n);
-    let end = find(line, from, line.len(), TAB);
+    let end = from + find(&line[from..], TAB);
     &line[from..end]
 }
 

@@ -1,7 +1,7 @@
 // Lists of numbers with commas between, possibly none. Arities are read by way of words.
 use crate::line::first_words;
 use crate::number::{Number, read_number};
-use bytes::scan::find;
+use crate::scan::find;
 use word_writer::put::{put_byte, put_number};
 
 pub const COMMA: u8 = 44;
@@ -39,7 +39,7 @@ pub fn read_words(field: &[u8], words: &mut [u16]) -> Items {
     let mut from = 0;
     let mut n = 0;
     while n < words.len() {
-        let end = find(field, from, field.len(), COMMA);
+        let end = from + find(&field[from..], COMMA);
         let word = word_in(&field[from..end]);
         if NO_WORD <= word {
             return MALFORMED;

@@ -1,9 +1,10 @@
-// Lines from standard input, one after the other, each in place in a buffer. LF stands between them.
+// Lines of an input, one after the other, each in place in a buffer. LF stands between them.
 ghost use Rattle.std.specs.Prelude.{◌≤◌, length};
 
-use bytes::scan::find;
 use case_fields::line::first_bytes;
-use libc::STDIN_FILENO;
+use case_fields::scan::find;
+use input::read_full;
+use std::io::{Read, Result};
 
 const LINE_FEED: u8 = 10;
 
@@ -47,42 +48,42 @@ fn left_after(line: Line) -> usize {
     0
 }
 
-pub fn next_line(input: &mut [u8], before: Line) -> Line {
+pub fn next_line<R: Read>(reader: &mut R, input: &mut [u8], before: Line) -> Result<Line> {
     let left = left_after(before);
     let rest = last(input, before.held, left);
-    let long = find(rest, 0, rest.len(), LINE_FEED);
+    let long = find(rest, LINE_FEED);
     if long < rest.len() {
-        return Line {
+        return Ok(Line {
             held: before.held,
             left,
             long,
             ended: false,
-        };
+        });
     }
-    refill(input, before.held, left)
+    refill(reader, input, before.held, left)
 }
 
 // What is left goes to the start, and more is read after it. A line that is longer than the buffer counts as empty.
-fn refill(input: &mut [u8], held: usize, left: usize) -> Line {
+fn refill<R: Read>(reader: &mut R, input: &mut [u8], held: usize, left: usize) -> Result<Line> {
     let kept = shift(input, held, left);
-    let more = io::read_full(STDIN_FILENO, &mut input[kept..]);
+    let more = read_full(reader, &mut input[kept..])?;
     let now = kept + more;
     let whole = first_bytes(input, now);
-    let long = find(whole, 0, whole.len(), LINE_FEED);
+    let long = find(whole, LINE_FEED);
     if long < input.len() {
-        return Line {
+        return Ok(Line {
             held: now,
             left: now,
             long,
             ended: now == 0,
-        };
+        });
     }
-    Line {
+    Ok(Line {
         held: now,
         left: now,
         long: 0,
         ended: false,
-    }
+    })
 }
 
 fn shift(input: &mut [u8], held: usize, left: usize) -> usize

@@ -1,6 +1,5 @@
 // The kinds of cases, and where the lists of each stand in its line. A further kind is a variant, a name and a form here, and an arm in `cases`.
 use case_fields::line::{field, tabs};
-use check::same;
 
 #[derive(Clone, Copy)]
 pub enum Kind {
@@ -83,10 +82,7 @@ const NAMED: usize = 8;
 // The names stand in the order of `numbered`.
 fn named(name: &[u8]) -> Kind {
     for i in 0..NAMED {
-        if same(
-            name,
-            field(b"text\tread\twriteq\twritel\tequal\tvalues\trun\trunw", i),
-        ) {
+        if name == field(b"text\tread\twriteq\twritel\tequal\tvalues\trun\trunw", i) {
             return numbered(i);
         }
     }

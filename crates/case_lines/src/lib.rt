@@ -8,6 +8,7 @@
 //   case     a line as a case: its kind, its numbers, its lists in the buffers
 //   lending  how much of a buffer is lent
 //   answer   what an entry answered, and the result's line
+#![tactic(auto)]
 
 pub mod answer;
 pub mod buffers;

@@ -10,18 +10,23 @@
 //   runw    U A E W STEPS DEPTH SIZE SPACE ROOM    ->  END VISITED ANSWERS W
 //
 // Where an entry refuses, the result is `refused N P`. HEX is bytes in hex; A, W and ROW are numbers with commas between, possibly none; the others are
-// numbers, of which AC, WC, CAP, SPACE and ROOM say how much is lent. A line that is no case ends the program, with a word on standard error.
+// numbers, of which AC, WC, CAP, SPACE and ROOM say how much is lent. A line that is no case ends the program, with a word on standard error. A read or a write
+// that fails ends it with an error.
 //
 // Crate `case_lines` reads the lines and writes the results; `entry_cases` and `run_cases` have the kinds.
+#![tactic(auto)]
+
 use case_fields::line::{first_bytes, first_words};
 use case_lines::answer::{Answer, put_answer};
-use case_lines::buffers::{Bytes, Input, Page, Room, Words};
+use case_lines::buffers;
+use case_lines::buffers::{Bytes, Page, Room, Words};
 use case_lines::case::case_of;
 use case_lines::input::{NONE_YET, line_of, next_line};
 use case_lines::kind::Kind;
 use entry_cases::entry_answer;
-use libc::{STDERR_FILENO, STDOUT_FILENO};
 use run_cases::run_answer;
+use std::io;
+use std::io::Write;
 use word_writer::put::put_byte;
 
 const LINE_FEED: u8 = 10;
@@ -70,21 +75,20 @@ fn take_line(
 }
 
 // Writes out the result that stands on a page.
-fn write_out(page: &mut Page, length: usize) {
+fn write_out(rt: &impl Print, page: &mut Page, length: usize) -> io::Result<()> {
     let end = put_byte(page, length, LINE_FEED);
-    io::write_all(STDOUT_FILENO, first_bytes(page, end));
+    io::writer(rt).write_all(first_bytes(page, end))
 }
 
 // A word on the line that is no case.
-fn complain(line: u64) {
-    io::write_all(STDERR_FILENO, b"cases: line ");
-    io::print_decimal(STDERR_FILENO, line);
-    io::write_all(STDERR_FILENO, b": malformed case\n");
+fn complain(rt: &impl Eprint, line: u64) -> io::Result<()> {
+    eprintln!(rt; "cases: line {line}: malformed case")
 }
 
 // Line after line until the input ends. Nothing says that it does, so the lines are counted up to a number that no run reaches.
 fn take_lines(
-    input: &mut Input,
+    rt: &(impl Input + Print + Eprint),
+    input: &mut buffers::Input,
     bytes: &mut Bytes,
     words: &mut Words,
     row: &mut Words,
@@ -92,12 +96,13 @@ fn take_lines(
     laid_words: &mut Words,
     room: &mut Room,
     page: &mut Page,
-) {
+) -> io::Result<()> {
+    let mut reader = rt.reader();
     let mut line = NONE_YET;
     for number in 1..u64::MAX {
-        line = next_line(input, line);
+        line = next_line(&mut reader, input, line)?;
         if line.ended {
-            return;
+            return Ok(());
         }
         let length = take_line(
             line_of(input, line),
@@ -110,14 +115,14 @@ fn take_lines(
             page,
         );
         if length == 0 {
-            complain(number);
-            return;
+            return complain(rt, number);
         }
-        write_out(page, length);
+        write_out(rt, page, length)?;
     }
+    Ok(())
 }
 
-fn main() {
+fn main(rt: HostRuntime) -> io::Result<()> {
     let mut input = [0u8; 131073];
     let mut bytes = [0u8; 147456];
     let mut words = [0u16; 12288];
@@ -127,6 +132,7 @@ fn main() {
     let mut room = [0u16; 3000000];
     let mut page = [0u8; 294928];
     take_lines(
+        &rt,
         &mut input,
         &mut bytes,
         &mut words,
@@ -135,5 +141,5 @@ fn main() {
         &mut laid_words,
         &mut room,
         &mut page,
-    );
+    )
 }

@@ -1,15 +1,20 @@
 // Deep and wide terms, to see that both tests come back and how they answer. Standard input has two ground terms a line, or, where the line has a bar, an
 // equation over the unknowns x and y, the bar, and their values. Letters are in prefix order: 1 is member adding, 0 the empty set, any other letter the
-// functor with the letter's number; g has one argument and p has two. Each answer is a line.
+// functor with the letter's number; g has one argument and p has two. Each answer is a line. A read or a write that fails ends the program with an error.
 #![tactic(auto)]
 
 use equality::{equal, solves};
+use input::read_full;
 use results::compared::{Equality, Solving};
+use std::io;
 use terms::bounds::{EMPTY, FUNCTORS, MEMBER};
 use terms::kind::{functor_word, unknown_word};
 use terms::refusal::{Refusal, number_of};
 
 const LINE_END: u8 = 10;
+
+// the bytes that are read
+const TEXT: usize = 65536;
 
 // the words of a question, of the bar and of a row
 const LINE_WORDS: usize = 8193;
@@ -33,41 +38,25 @@ fn word_of(letter: u8) -> u16 {
     functor_word(letter as usize)
 }
 
-fn tell_refusal(refusal: Refusal) {
-    let cause = refusal.cause;
+fn tell_refusal(rt: &impl Print, refusal: Refusal) -> io::Result<()> {
     let place = refusal.place;
-    io::write_all(1, b"refused ");
-    io::print_decimal(1, number_of(cause) as u64);
-    io::write_all(1, b" ");
-    io::print_decimal(1, place as u64);
-    io::write_all(1, b"\n");
+    let number = number_of(refusal.cause);
+    println!(rt; "refused {number} {place}")
 }
 
-fn tell_equal(arities: &[u8], row: &[u16]) {
+fn tell_equal(rt: &impl Print, arities: &[u8], row: &[u16]) -> io::Result<()> {
     match equal(arities, row) {
-        Equality::Equal => {
-            io::write_all(1, b"equal\n");
-        }
-        Equality::Differ => {
-            io::write_all(1, b"differ\n");
-        }
-        Equality::Refused(refusal) => {
-            tell_refusal(refusal);
-        }
+        Equality::Equal => println!(rt; "equal"),
+        Equality::Differ => println!(rt; "differ"),
+        Equality::Refused(refusal) => tell_refusal(rt, refusal),
     }
 }
 
-fn tell_solving(arities: &[u8], words: &[u16], row: &[u16]) {
+fn tell_solving(rt: &impl Print, arities: &[u8], words: &[u16], row: &[u16]) -> io::Result<()> {
     match solves(2, arities, 1, words, row) {
-        Solving::Yes => {
-            io::write_all(1, b"yes\n");
-        }
-        Solving::No => {
-            io::write_all(1, b"no\n");
-        }
-        Solving::Refused(refusal) => {
-            tell_refusal(refusal);
-        }
+        Solving::Yes => println!(rt; "yes"),
+        Solving::No => println!(rt; "no"),
+        Solving::Refused(refusal) => tell_refusal(rt, refusal),
     }
 }
 
@@ -83,26 +72,26 @@ fn bar(line: &[u16]) -> usize {
     i
 }
 
-fn tell(line: &[u16]) {
+fn tell(rt: &impl Print, line: &[u16]) -> io::Result<()> {
     let mut arities = [0u8; FUNCTORS];
     arities[103] = 1;
     arities[112] = 2;
     let k = bar(line);
     if k < line.len() {
-        tell_solving(&arities, &line[..k], &line[k + 1..]);
+        tell_solving(rt, &arities, &line[..k], &line[k + 1..])
     } else {
-        tell_equal(&arities, line);
+        tell_equal(rt, &arities, line)
     }
 }
 
 // A line longer than a question, the bar and a row may be is cut.
-fn tell_lines(text: &[u8], row: &mut [u16]) {
+fn tell_lines(rt: &impl Print, text: &[u8], row: &mut [u16]) -> io::Result<()> {
     let mut n: usize = 0;
     let mut i: usize = 0;
     while i < text.len() {
         let letter = text[i];
         if letter == LINE_END {
-            tell(&row[..n]);
+            tell(rt, &row[..n])?;
             n = 0;
             i += 1;
         } else if n < row.len() {
@@ -113,11 +102,12 @@ fn tell_lines(text: &[u8], row: &mut [u16]) {
             i += 1;
         }
     }
+    Ok(())
 }
 
-fn main() {
-    let mut text = io::large_buffer();
+fn main(rt: HostRuntime) -> io::Result<()> {
+    let mut text = [0u8; TEXT];
     let mut row = [0u16; LINE_WORDS];
-    let n = io::read_full(0, &mut text);
-    tell_lines(&text[..n], &mut row);
+    let n = read_full(&mut rt.reader(), &mut text)?;
+    tell_lines(&rt, &text[..n], &mut row)
 }

@@ -3,6 +3,7 @@
 //   comparing  equal, values
 //   reading    text, read
 //   writing    writeq, writel
+#![tactic(auto)]
 
 mod comparing;
 mod reading;

@@ -3,6 +3,7 @@
 //   lent   one run, of what a case lends
 //   texts  run
 //   words  runw
+#![tactic(auto)]
 
 mod lent;
 mod texts;

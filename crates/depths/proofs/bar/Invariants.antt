@@ -1,5 +1,4 @@
-use Prim.Native.Nat.{◌-◌, ◌≤◌}
-use lib.ListN.{length}
+use Rattle.std.proofs.Common.{length, ◌-◌, ◌≤◌}
 use Rattle.depths.proofs.bar.Given as goal
 
 abbrev pub invariant-loop-i : goal.invariant-loop-i

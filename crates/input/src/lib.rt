@@ -1,0 +1,25 @@
+// Reading into a lent buffer until it is full or the input ends.
+#![tactic(auto)]
+
+ghost use Rattle.std.specs.Prelude.{◌<◌, length, take, IfOk};
+ghost use Rattle.std.specs.Io.{ReadsAtMost};
+ghost use Rattle.std.specs.Io.KnownBytes.{Consumes, IsAtEnd};
+
+use std::io::{Read, Result};
+
+// How many bytes of the input stand at the start of the buffer: the buffer is full, or the input has no more. A read that fails is an error.
+pub fn read_full<R: Read>(reader: &mut R, buffer: &mut [u8]) -> Result<usize>
+    ensures bound { ReadsAtMost result buffer.new }
+    ensures bytes { IfOk result (λ n. Consumes (R.remaining reader.old) (R.remaining reader.new) (take n buffer.new)) }
+    ensures end { IfOk result (λ n. n < length buffer.new → IsAtEnd (R.remaining reader.new)) }
+{
+    let mut filled = 0;
+    while filled < buffer.len() {
+        let more = reader.read(&mut buffer[filled..])?;
+        if more == 0 {
+            break;
+        }
+        filled += more;
+    }
+    Ok(filled)
+}
