@@ -40,11 +40,7 @@ list_answer-requires c =
 
 pub returns : goal.returns
 returns c =
-    record {
-      value = rw c.with_answer.ensures ((held c.args.row.now c.read_header-header.ensures c.args.answers.now c.args.counts c.if-header-gt0.false
-          c.if-header-gt0-2.false (within-row c.args.row.now c.read_header-header.ensures c.requires c.if-header-gt0.false c.if-header-gt0-2.false)
-          c.if-answers-used.false c.list_answer.ensures)).0;
-      answers_after = rw c.with_answer.ensures ((held c.args.row.now c.read_header-header.ensures c.args.answers.now c.args.counts c.if-header-gt0.false
-          c.if-header-gt0-2.false (within-row c.args.row.now c.read_header-header.ensures c.requires c.if-header-gt0.false c.if-header-gt0-2.false)
-          c.if-answers-used.false c.list_answer.ensures)).1;
-    }
+    let both = held c.args.row.now c.read_header-header.ensures c.args.answers.now c.args.counts c.if-header-gt0.false
+    c.if-header-gt0-2.false (within-row c.args.row.now c.read_header-header.ensures c.requires c.if-header-gt0.false c.if-header-gt0-2.false)
+    c.if-answers-used.false c.list_answer.ensures in
+    record { value = rw c.with_answer.ensures both.0; answers_after = both.1 }

@@ -21,7 +21,7 @@ pub same-requires : goal.same-requires
 same-requires c =
     let r = rw c.term_end-right.ensures at c.resolve-in-loop-due.ensures in
     let w = c.loop-due.invariant in
-    record { comparing = rw (c.resolve.ensures, r) holds-asks w c.loop-due-test.true; settled = rw (c.resolve.ensures, r) w.apart }
+    record { comparing = rw (c.resolve.ensures, r) (holds-asks w c.loop-due-test.true); settled = w.apart }
 
 pub term_end-left-requires : goal.term_end-left-requires
 term_end-left-requires c =

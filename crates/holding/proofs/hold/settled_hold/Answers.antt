@@ -16,15 +16,7 @@ pub slice_bounds-settled_in-end-2 : goal.slice_bounds-settled_in-end-2
 slice_bounds-settled_in-end-2 c = sym (length-take-le _ _ (omega (arith, c.requires.few, c.blank-settled.ensures)))
 
 pub settled_in-requires : goal.settled_in-requires
-settled_in-requires c =
-    let both = (
-      c.requires,
-      (
-        length-take-le _ _ (omega (arith, c.requires.few, c.blank-ranks.ensures)),
-        length-take-le _ _ (omega (arith, c.requires.few, c.blank-settled.ensures)),
-      ),
-    ) in
-    record { equations = both.0; ranks_len = both.1; settled_len = both.2 }
+settled_in-requires c = record { equations = c.requires; ranks_len = length-take-le _ _ (omega (arith, c.requires.few, c.blank-ranks.ensures)); settled_len = length-take-le _ _ (omega (arith, c.requires.few, c.blank-settled.ensures)) }
 
 pub shape_of-labels : goal.shape_of-labels
 shape_of-labels c = c.settled_in.auto.labels

@@ -10,14 +10,14 @@ number-requires c = omega (arith, c.requires.equations.long, c.requires.equation
 
 pub rank_all-requires : goal.rank_all-requires
 rank_all-requires c =
-    ranked_cleared c.requires.equations.placed c.requires.ranks_len.0 c.clear.ensures
+    ranked_cleared c.requires.equations.placed c.requires.ranks_len c.clear.ensures
 
 pub settle-requires : goal.settle-requires
 settle-requires c =
     let d = c.clear-2.ensures in
     record {
       ranked = c.rank_all.ensures;
-      long = d.long ∙ c.requires.ranks_len.1;
+      long = d.long ∙ c.requires.settled_len;
       classes = each_its_own (c.number.auto.labels ∙ c.requires.equations.long) c.number.ensures;
       none = λ q i. d.none q (omega (arith, d.long));
     }
