@@ -1,14 +1,12 @@
--- How many picks a member of a split has: what the code finds by the tag of the split's tails, and what the tails' kind tells of them.
+-- How many picks a member of a split has: what the code finds by the case of the split's tails, and what the tails' kind tells of them.
 use Prim.Native.Nat.{ℕ, suc, ◌+◌, ◌≤◌, ◌<◌}
 use mathlib.Core.Path.{◌≡◌, refl}
 use mathlib.Core.Bool.{Bool, true, false}
 use mathlib.Core.List.{[], ◌∷◌}
 use native.Mathlib.Omega.{arith}
-use types.Run.{OneOf, miss}
+use mathlib.Core.Logic.{◌⊎◌, inl, inr}
 use lib.Dec.{eqb}
 use lib.ListN.{length}
-use denote.Enum.Declared.{tag_of}
-use Rattle.search.specs.contracts.steps.Tails.{the_type}
 use Rattle.search.specs.declared.steps.Tails.{Tails}
 use Rattle.search.specs.declared.steps.Tails.TheVariants.{Neither, Left, Right, Different, Same}
 use Rattle.search.specs.declared.steps.Step.TheVariants.{Split}
@@ -19,39 +17,29 @@ use Rattle.terms.specs.Shape.{is_unknown, number}
 use Rattle.search_laws.specs.Picking.{radix}
 use Rattle.pick_loop.specs.PicksInScratch.{left_open, right_open}
 
--- ---- by the tag
+-- ---- by the case
 
-pub right_closed : (k : Tails) (m : ℕ) → OneOf (0 ∷ 1 ∷ []) (tag_of the_type k) → m ≡ radix (right_open k) m
+pub right_closed : (k : Tails) (m : ℕ) → (k ≡ Neither) ⊎ (k ≡ Left) → m ≡ radix (right_open k) m
 unfolding right_open radix
-right_closed Neither m h = refl
-right_closed Left m h = refl
-right_closed Right m h = absurd (miss (0 ∷ 1 ∷ []) 2 tt h)
-right_closed Different m h = absurd (miss (0 ∷ 1 ∷ []) 3 tt h)
-right_closed Same m h = absurd (miss (0 ∷ 1 ∷ []) 4 tt h)
+right_closed k m (inl e) = rw e
+right_closed k m (inr e) = rw e
 
-pub right_opened : (k : Tails) (m : ℕ) → OneOf (2 ∷ 3 ∷ 4 ∷ []) (tag_of the_type k) → m + 1 ≡ radix (right_open k) m
+pub right_opened : (k : Tails) (m : ℕ) → (k ≡ Right) ⊎ ((k ≡ Different) ⊎ (k ≡ Same)) → m + 1 ≡ radix (right_open k) m
 unfolding right_open radix
-right_opened Neither m h = absurd (miss (2 ∷ 3 ∷ 4 ∷ []) 0 tt h)
-right_opened Left m h = absurd (miss (2 ∷ 3 ∷ 4 ∷ []) 1 tt h)
-right_opened Right m h = omega arith
-right_opened Different m h = omega arith
-right_opened Same m h = omega arith
+right_opened k m (inl e) = rw e (omega arith)
+right_opened k m (inr (inl e)) = rw e (omega arith)
+right_opened k m (inr (inr e)) = rw e (omega arith)
 
-pub left_closed : (k : Tails) (n : ℕ) → OneOf (0 ∷ 2 ∷ []) (tag_of the_type k) → n ≡ radix (left_open k) n
+pub left_closed : (k : Tails) (n : ℕ) → (k ≡ Neither) ⊎ (k ≡ Right) → n ≡ radix (left_open k) n
 unfolding left_open radix
-left_closed Neither n h = refl
-left_closed Left n h = absurd (miss (0 ∷ 2 ∷ []) 1 tt h)
-left_closed Right n h = refl
-left_closed Different n h = absurd (miss (0 ∷ 2 ∷ []) 3 tt h)
-left_closed Same n h = absurd (miss (0 ∷ 2 ∷ []) 4 tt h)
+left_closed k n (inl e) = rw e
+left_closed k n (inr e) = rw e
 
-pub left_opened : (k : Tails) (n : ℕ) → OneOf (1 ∷ 3 ∷ 4 ∷ []) (tag_of the_type k) → n + 1 ≡ radix (left_open k) n
+pub left_opened : (k : Tails) (n : ℕ) → (k ≡ Left) ⊎ ((k ≡ Different) ⊎ (k ≡ Same)) → n + 1 ≡ radix (left_open k) n
 unfolding left_open radix
-left_opened Neither n h = absurd (miss (1 ∷ 3 ∷ 4 ∷ []) 0 tt h)
-left_opened Left n h = omega arith
-left_opened Right n h = absurd (miss (1 ∷ 3 ∷ 4 ∷ []) 2 tt h)
-left_opened Different n h = omega arith
-left_opened Same n h = omega arith
+left_opened k n (inl e) = rw e (omega arith)
+left_opened k n (inr (inl e)) = rw e (omega arith)
+left_opened k n (inr (inr e)) = rw e (omega arith)
 
 -- ---- by the sides
 

@@ -31,7 +31,7 @@ pub returns-then-not-advance : goal.returns-then-not-advance
 returns-then-not-advance c = λ p E. first_spent E c.advance.ensures (c.if-not-advance.true)
 
 pub shape_of-room-then-not-advance : goal.shape_of-room-then-not-advance
-shape_of-room-then-not-advance c = (returns c c.requires.p c.requires.here).long
+shape_of-room-then-not-advance c = (returns-then-not-advance c c.requires.p c.requires.here).long
 
 pub loop-k-init : goal.loop-k-init
 loop-k-init c = λ l p P. P
@@ -64,7 +64,7 @@ returns-then-not-advance-2 c = λ p E.
 
 pub shape_of-room-then-not-advance-2 : goal.shape_of-room-then-not-advance-2
 shape_of-room-then-not-advance-2 c =
-    (returns-2 c c.requires.p c.requires.here).long
+    (returns-then-not-advance-2 c c.requires.p c.requires.here).long
 
 pub loop-k-smaller : goal.loop-k-smaller
 loop-k-smaller c = let t = c.loop-k-test.true in omega arith
@@ -87,7 +87,7 @@ returns-in-Names c =
 
 pub shape_of-room-in-Names : goal.shape_of-room-in-Names
 shape_of-room-in-Names c =
-    (returns-3 c c.requires.p c.requires.here).long
+    (returns-in-Names c c.requires.p c.requires.here).long
 
 pub returns-in-Large : goal.returns-in-Large
 unfolding of_reached
@@ -100,7 +100,7 @@ returns-in-Large c =
 
 pub shape_of-room-in-Large : goal.shape_of-room-in-Large
 shape_of-room-in-Large c =
-    (returns-4 c c.requires.p c.requires.here).long
+    (returns-in-Large c c.requires.p c.requires.here).long
 
 pub returns-in-Live : goal.returns-in-Live
 unfolding of_reached
@@ -113,11 +113,11 @@ returns-in-Live c =
 
 pub shape_of-room-in-Live : goal.shape_of-room-in-Live
 shape_of-room-in-Live c =
-    (returns-5 c c.requires.p c.requires.here).long
+    (returns-in-Live c c.requires.p c.requires.here).long
 
 pub returns : goal.returns
 returns c = λ p E. told-due (c.loop-k.invariant _ p (first_passed E c.advance.ensures (c.if-not-advance.false))) c.loop-k-test.false
 
 pub shape_of-room : goal.shape_of-room
 shape_of-room c =
-    (returns-6 c c.requires.p c.requires.here).long
+    (returns c c.requires.p c.requires.here).long

@@ -90,4 +90,4 @@ pub returns-in-Node : goal.returns-in-Node
 returns-in-Node c =
     λ to R.
     hears_node R (number-here R c.number_in-number.ensures) c.most_passed-most.ensures (c.look-looked.ensures.looks, c.look-looked.ensures.opens_value) c.in-Node.is
-    c.with_nodes-in-Node.ensures (c.meet.ensures.value, c.meet.ensures.room_after, c.meet.ensures.answers_after) c.shown_then-in-Node.ensures
+    c.with_nodes-in-Node.ensures (c.meet.ensures.value, (c.meet.ensures.room_after, c.meet.ensures.answers_after)) c.shown_then-in-Node.ensures

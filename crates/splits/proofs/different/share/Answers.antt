@@ -20,5 +20,5 @@ shape_of-room c =
 
 pub returns : goal.returns
 returns c =
-    let f = rw c.unknown_word-word.ensures at (c.replace.ensures.value, c.replace.ensures.room_after) in
-    record { shared = λ l₀ p s H e h. values-shared _ _ _ _ _ c.requires H e h f.0 f.1 }
+    let f_0 = rw c.unknown_word-word.ensures at c.replace.ensures.value in let f_1 = rw c.unknown_word-word.ensures at c.replace.ensures.room_after in
+    record { shared = λ l₀ p s H e h. values-shared _ _ _ _ _ c.requires H e h f_0 f_1 }

@@ -35,9 +35,9 @@ pub returns-in-Held : goal.returns-in-Held
 returns-in-Held c =
     let both = opened_held c.requires _ c.set_number.ensures c.with_nodes-more.ensures refl (c.note.ensures.value, c.note.ensures.answers_after)
     c.in-Held.is in
-    record { value = both.0; room_after = both.1; answers_after = both.2 }
+    record { value = both.0; room_after = both.1.0; answers_after = both.1.1 }
 
 pub returns-in-Space : goal.returns-in-Space
 returns-in-Space c =
     let both = opened_space c.requires _ c.set_number.ensures c.with_nodes-more.ensures refl (c.note.ensures.value, c.note.ensures.answers_after) c.in-Space.is in
-    record { value = both.0; room_after = both.1; answers_after = both.2 }
+    record { value = both.0; room_after = both.1.0; answers_after = both.1.1 }

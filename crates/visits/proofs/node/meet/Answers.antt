@@ -13,9 +13,9 @@ returns-in-Live c =
 pub returns-in-Names : goal.returns-in-Names
 unfolding node_turn node_room node_answers
 returns-in-Names c =
-    record { value = rw c.in-Names.is ((refl, (refl, refl))).0; room_after = rw c.in-Names.is ((refl, (refl, refl))).1; answers_after = rw c.in-Names.is ((refl, (refl, refl))).2 }
+    record { value = rw c.in-Names.is refl; room_after = rw c.in-Names.is refl; answers_after = rw c.in-Names.is refl }
 
 pub returns-in-Large : goal.returns-in-Large
 unfolding node_turn node_room node_answers
 returns-in-Large c =
-    record { value = rw c.in-Large.is ((refl, (refl, refl))).0; room_after = rw c.in-Large.is ((refl, (refl, refl))).1; answers_after = rw c.in-Large.is ((refl, (refl, refl))).2 }
+    record { value = rw c.in-Large.is refl; room_after = rw c.in-Large.is refl; answers_after = rw c.in-Large.is refl }
