@@ -1,5 +1,3 @@
-pub mod DemandTwo
 pub mod Fits
-pub mod Examples
 pub mod Steps
 pub mod Runs

@@ -3,7 +3,7 @@ ghost use Rattle.std.specs.Prelude.{◌≤◌, length};
 
 use case_fields::line::first_bytes;
 use case_fields::scan::find;
-use input::read_full;
+use full_reads::read_full;
 use std::io::{Read, Result};
 
 const LINE_FEED: u8 = 10;

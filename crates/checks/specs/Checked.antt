@@ -10,14 +10,16 @@ use borrow.Author.Tests.{lt-ltb, ltb-true, eqb-true}
 use Rattle.terms.specs.Answers.{Binding, binding_words, answer_words, listed}
 use Rattle.terms.specs.Bounds.{Bounds, Proper}
 use Rattle.checks.specs.Check.{checked, follow, follows, after, refused}
-use Rattle.terms.specs.Kind.{kind, takes, kind_unknown, kind_functor, takes_empty, takes_member, takes_unknown, takes_functor, Worded}
+use Rattle.terms.specs.Kind.{kind, takes, kind_unknown, kind_functor, takes_empty, takes_member, takes_unknown, Worded}
+use Rattle.terms.proofs.KindLaws.{takes_functor}
 use Rattle.terms.specs.Listing.{Bound, Parts, parts, nothing, term_word, name_word, count_word, list_words}
 use Rattle.terms.specs.Lists.{All, none, both}
 use Rattle.terms.specs.Term.{Term, words, size}
 use Rattle.terms.specs.Formed.{Formed, row}
 use Rattle.checks.specs.Pushed.{pushed, formed_top, formed_drop}
 use Rattle.terms.specs.Reading.{top}
-use Rattle.terms.specs.Laws.Walk.{Stands, stands_empty, stands_member, stands_unknown, stands_functor, words_stand, past}
+use Rattle.terms.specs.Laws.Walk.{Stands, stands_empty, stands_member, stands_unknown, stands_functor, words_stand}
+use Rattle.terms.proofs.Walk.{past}
 use Rattle.terms.specs.declared.refusal.Cause.{Cause}
 use Rattle.terms.specs.declared.refusal.Cause.TheVariants.{WordsStop, WordsUndeclared}
 use Rattle.terms.specs.declared.refusal.Checked.{Checked}

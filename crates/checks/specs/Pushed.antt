@@ -5,7 +5,8 @@ use Rattle.std.specs.Prelude.{refl, List, [], ◌∷◌, ◌++◌, Bool, true, f
 use Rattle.std.proofs.Common.{ap, ◌∙◌, append_assoc, arith, ltb-true}
 use Rattle.std.proofs.Math.ListN.{get_or, length-drop}
 use Rattle.terms.specs.Bounds.{Bounds, Proper, MEMBER}
-use Rattle.terms.specs.Kind.{kind, Means, means, means_empty, means_member, means_unknown, means_functor, means_nothing, takes, takes_empty, takes_member, takes_unknown, takes_functor}
+use Rattle.terms.specs.Kind.{kind, Means, means, means_empty, means_member, means_unknown, means_functor, means_nothing, takes, takes_empty, takes_member, takes_unknown}
+use Rattle.terms.proofs.KindLaws.{takes_functor}
 use Rattle.terms.specs.Lists.{All, none, both}
 use Rattle.terms.specs.Term.{Term, Terms, words, words*, count}
 use Rattle.terms.specs.Formed.{Formed, Formed*, formed_unknown, formed_empty, formed_with, formed_functor, formed_none, formed_more, row}

@@ -12,7 +12,8 @@ use Rattle.terms.specs.Formed.{Equation}
 use Rattle.terms.specs.Laws.Flat.{size_positive}
 use Rattle.search.specs.State.{State, Entry, pend, size_equations}
 use Rattle.search.specs.Classify.{classify}
-use Rattle.search.specs.StepView.{Stepped, stepped, splits}
+use Rattle.search.specs.StepView.{Stepped, splits}
+use Rattle.search.proofs.StepView.{stepped}
 use Rattle.search.specs.declared.steps.Tails.{Tails}
 use Rattle.search.specs.declared.steps.Step.TheVariants.{Split}
 use Rattle.binding.specs.At.{first_words, first-size}

@@ -13,7 +13,7 @@ use Rattle.terms.specs.Kind.{takes, Worded}
 use Rattle.terms.specs.Lists.{All_units}
 use Rattle.terms.specs.Term.{Term, unknown, empty, with, functor, words, words*, size}
 use Rattle.terms.specs.Formed.{Formed, formed_unknown, formed_empty, formed_with, formed_functor}
-use Rattle.terms.specs.Laws.Walk.{past}
+use Rattle.terms.proofs.Walk.{past}
 
 -- so many terms of a member are due, and a place is reached
 unfoldable pub noted : Bounds → List ℕ → List ℕ → (due place : ℕ) → List ℕ

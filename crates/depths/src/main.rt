@@ -4,7 +4,7 @@
 #![tactic(auto)]
 
 use equality::{equal, solves};
-use input::read_full;
+use full_reads::read_full;
 use results::compared::{Equality, Solving};
 use std::io;
 use terms::bounds::{EMPTY, FUNCTORS, MEMBER};

@@ -1,9 +1,5 @@
 pub mod SolvedForm
 pub mod Tally
 pub mod Occurring
-pub mod Orderly
 pub mod Weight
 pub mod SplitPicks
-pub mod Falling
-pub mod JoinFalls
-pub mod Tree

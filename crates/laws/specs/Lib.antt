@@ -1,11 +1,5 @@
 pub mod Laws
 pub mod Equal
 pub mod Alike
-pub mod Members
-pub mod Agree
-pub mod Apart
 pub mod Values
 pub mod ValuesPut
-pub mod Solving
-pub mod Rank
-pub mod Tails

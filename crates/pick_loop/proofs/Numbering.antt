@@ -12,7 +12,8 @@ use Rattle.search.specs.Classify.{tails}
 use Rattle.search.specs.declared.steps.Tails.{Tails}
 use Rattle.rows.specs.declared.parts.Rest.{Rest}
 use Rattle.search_laws.specs.ChoiceNumbers.{choices, number, Digits, no_digit, digit, choices-append, number_append}
-use Rattle.search_laws.specs.Picking.{radix, radices_of, t_radices, u_radices, child_number, drop-split, length-split}
+use Rattle.search_laws.specs.Picking.{radix, radices_of, t_radices, u_radices, child_number, length-split}
+use Rattle.search_laws.proofs.PickedChildren.{drop-split}
 use Rattle.choices.specs.declared.sides.Sides.{Sides}
 use Rattle.choices.specs.Digits.{copies}
 use Rattle.choices.specs.OpenParent.{Parent}

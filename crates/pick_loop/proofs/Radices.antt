@@ -11,7 +11,8 @@ use Rattle.search.specs.declared.steps.Tails.{Tails}
 use Rattle.search.specs.declared.steps.Tails.TheVariants.{Neither, Left, Right, Different, Same}
 use Rattle.search.specs.declared.steps.Step.TheVariants.{Split}
 use Rattle.search.specs.Classify.{tails_by, tails, classify}
-use Rattle.search.specs.StepView.{Stepped, splits, stepped}
+use Rattle.search.specs.StepView.{Stepped, splits}
+use Rattle.search.proofs.StepView.{stepped}
 use Rattle.terms.specs.Term.{Term, with, members, kernel}
 use Rattle.terms.specs.Shape.{is_unknown, number}
 use Rattle.search_laws.specs.Picking.{radix}

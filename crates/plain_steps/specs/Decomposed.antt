@@ -13,7 +13,7 @@ use Rattle.terms.specs.Kind.{Worded}
 use Rattle.terms.specs.Term.{Terms, functor, words, words*, size, size*, list, count}
 use Rattle.terms.specs.Formed.{Equation, Formed, Formed*, formed_functor, formed_none, formed_more, row, sides}
 use Rattle.terms.specs.Laws.Flat.{length_words}
-use Rattle.terms.specs.Laws.Walk.{term_ends}
+use Rattle.terms.proofs.Walk.{term_ends}
 use Rattle.search.specs.State.{State, live, pend}
 use Rattle.search.specs.Children.{pairwise}
 use Rattle.search.specs.StateWords.{pending_words, pile_words}

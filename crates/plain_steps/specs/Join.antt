@@ -15,7 +15,8 @@ use Rattle.terms.specs.Lists.{All, none, both, cases}
 use Rattle.terms.specs.Term.{words, size, members, kernel}
 use Rattle.terms.specs.Formed.{Formed}
 use Rattle.terms.specs.Laws.Flat.{length_words, eqb_shift}
-use Rattle.terms.specs.Laws.Walk.{span, span-le, term_ends}
+use Rattle.terms.specs.Laws.Walk.{span, span-le}
+use Rattle.terms.proofs.Walk.{term_ends}
 use Rattle.search.specs.State.{Entry}
 use Rattle.search.specs.Children.{entries, joined}
 use Rattle.search.specs.StateWords.{pile_words}

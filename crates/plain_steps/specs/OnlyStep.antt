@@ -9,7 +9,8 @@ use Rattle.std.proofs.Math.ListN.{length, get_or}
 use Rattle.room.specs.Room.{seg, get_or-seg}
 use Rattle.room.specs.Layout.{HEADER}
 use Rattle.terms.specs.Bounds.{edition_one, edition_one_proper, FIRST_UNKNOWN, FIRST_FUNCTOR}
-use Rattle.terms.specs.Kind.{takes, takes_functor}
+use Rattle.terms.specs.Kind.{takes}
+use Rattle.terms.proofs.KindLaws.{takes_functor}
 use Rattle.terms.specs.Term.{Term, Terms, functor, words, size, occurs, list}
 use Rattle.terms.specs.Formed.{Equation, Formed, formed_unknown, formed_functor}
 use Rattle.terms.specs.Shape.{arguments}
@@ -18,7 +19,8 @@ use Rattle.search.specs.State.{State, Node, live, dead, pend, piled}
 use Rattle.search.specs.Classify.{classify}
 use Rattle.search.specs.Children.{bound, bound_state, pairwise}
 use Rattle.search.specs.Children as children
-use Rattle.search.specs.StepView.{Sided, as_written, turned_round, Stepped, stepped, binds, postpones, decomposes, take_bind, take_postpone}
+use Rattle.search.specs.StepView.{Sided, as_written, turned_round, Stepped, binds, postpones, decomposes, take_bind, take_postpone}
+use Rattle.search.proofs.StepView.{stepped}
 use Rattle.search.specs.declared.steps.Tails.{Tails}
 use Rattle.search.specs.declared.steps.Step.{Step}
 use Rattle.search.specs.declared.steps.Step.TheVariants.{Drop, Bind, Postpone, Decompose, Dead}

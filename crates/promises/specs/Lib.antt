@@ -1,5 +1,2 @@
 pub mod Wording
 pub mod Searches
-pub mod Promises
-pub mod Examples
-pub mod EditionTwo

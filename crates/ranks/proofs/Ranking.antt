@@ -8,7 +8,7 @@ use lib.ListN.{length, get_or, set}
 use Rattle.terms.specs.Term.{with}
 use Rattle.terms.specs.Reading.{taken}
 use Rattle.terms.specs.Bounds.{MEMBER}
-use Rattle.laws.specs.Rank.{rank, rank*}
+use Rattle.laws.proofs.Rank.{rank, rank*}
 use Rattle.laws.specs.Values.{value*}
 use Rattle.term_places.specs.Places.{Held, valued, Placed, Known, end, resolved, member_of, rest_of}
 use Rattle.term_places.specs.Opened.{opened, resolving}

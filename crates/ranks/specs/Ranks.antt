@@ -1,7 +1,7 @@
 -- Ranks of places: what a table of them says, and what the steps that fill it start from.
 use Rattle.std.specs.Prelude.{ℕ, suc, ◌<◌, ◌≤◌, ◌≡◌, List, length, get_or}
 use Rattle.terms.specs.Bounds.{MEMBER}
-use Rattle.laws.specs.Rank.{rank}
+use Rattle.laws.proofs.Rank.{rank}
 use Rattle.term_places.specs.Places.{Held, valued, Placed, Known}
 
 -- r is the rank of the term at p

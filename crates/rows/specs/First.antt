@@ -15,7 +15,7 @@ use Rattle.terms.specs.Term.{Term, words, size}
 use Rattle.terms.specs.Formed.{Equation, Formed}
 use Rattle.terms.specs.Answers.{binding_words}
 use Rattle.terms.specs.Laws.Flat.{length_words}
-use Rattle.terms.specs.Laws.Walk.{term_ends}
+use Rattle.terms.proofs.Walk.{term_ends}
 use Rattle.search.specs.State.{State, pend, size_equations, size_entries, size_bindings, state_size}
 use Rattle.search.specs.Classify.{classify}
 use Rattle.search.specs.StateWords.{pending_words, pile_words, state_words, length_pending, length_pile, length-bindings}

@@ -14,7 +14,8 @@ use Rattle.terms.specs.Term.{words, size}
 use Rattle.terms.specs.Formed.{Formed}
 use Rattle.terms.specs.Lists.{All, none, both, any, or_neither, cases}
 use Rattle.terms.specs.Laws.Flat.{length_words, eqb_shift}
-use Rattle.terms.specs.Laws.Walk.{span, term_ends}
+use Rattle.terms.specs.Laws.Walk.{span}
+use Rattle.terms.proofs.Walk.{term_ends}
 use Rattle.search.specs.State.{Entry}
 use Rattle.search.specs.Children.{entries, others}
 use Rattle.search.specs.StateWords.{pile_words}

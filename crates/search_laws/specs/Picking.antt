@@ -141,11 +141,11 @@ module _ (k : Tails) (t u : Term) (st : State) where
   abbrev below : List Pick → List Node
   below ps = map (λ qs. settle k (kernel t) (kernel u) (joining ps) (joining qs) (new_equations ps ++ new_equations qs) st) (product Q)
 
-  split_is : split k t u st ≡ flat_map below (product P)
+  pub split_is : split k t u st ≡ flat_map below (product P)
   unfolding split picks picks_of_t picks_of_u
   split_is = refl
 
-  widths : (l : List (List Pick)) → All (λ ps. length (below ps) ≡ choices u_radices) l
+  pub widths : (l : List (List Pick)) → All (λ ps. length (below ps) ≡ choices u_radices) l
   widths [] = none
   widths (ps ∷ l) =
       both (length-map (product Q) _ ∙ length-product unread Q ∙ ap choices (radices-picks right_pair (is_unknown (kernel t)) ts us)) (widths l)
@@ -155,53 +155,3 @@ module _ (k : Tails) (t u : Term) (st : State) where
       rw split_is
       (length_flatMap below (choices u_radices) (widths (product P))
       ∙ ap (λ n. n * choices u_radices) (length-product unread P ∙ ap choices (radices-picks left_pair (is_unknown (kernel u)) us ts)))
-
-  t-digits : {ds : List ℕ} → Digits t_radices ds → Digits (radices unread P) ds
-  t-digits {ds} h = rw (radices-picks left_pair (is_unknown (kernel u)) us ts) h
-
-  u-digits : {es : List ℕ} → Digits u_radices es → Digits (radices unread Q) es
-  u-digits {es} g = rw (radices-picks right_pair (is_unknown (kernel t)) ts us) g
-
-  place_of_t : {ds : List ℕ} → Digits t_radices ds
-      → drop (number t_radices ds) (product P) ≡ chosen unread P ds ∷ drop (suc (number t_radices ds)) (product P)
-  place_of_t {ds} h = rw (radices-picks left_pair (is_unknown (kernel u)) us ts) at (drop-product unread P (t-digits h))
-
-  place_of_u : {es : List ℕ} → Digits u_radices es
-      → drop (number u_radices es) (product Q) ≡ chosen unread Q es ∷ drop (suc (number u_radices es)) (product Q)
-  place_of_u {es} g = rw (radices-picks right_pair (is_unknown (kernel t)) ts us) at (drop-product unread Q (u-digits g))
-
-  number_of-t : {ds : List ℕ} → Digits t_radices ds → number t_radices ds < length (product P)
-  number_of-t h = rw (length-product unread P, radices-picks left_pair (is_unknown (kernel u)) us ts) (number-below h)
-
-  settled : {ds es : List ℕ} → Digits t_radices ds → Digits u_radices es
-      → settle k (kernel t) (kernel u) (joining (chosen unread P ds)) (joining (chosen unread Q es)) (new_equations (chosen unread P ds) ++ new_equations (chosen unread Q es)) st ≡ child_of ds es
-  unfolding child_of
-  settled h g =
-      rw (
-        joining-chosen left_pair (is_unknown (kernel u)) us ts h,
-        joining-chosen right_pair (is_unknown (kernel t)) ts us g,
-        equations-chosen left_pair (is_unknown (kernel u)) us ts h,
-        equations-chosen right_pair (is_unknown (kernel t)) ts us g,
-      )
-
-  first_of : {ds es : List ℕ} → Digits t_radices ds → Digits u_radices es → (l : List Node) × (drop (child_number ds es) (split k t u st) ≡ child_of ds es ∷ l)
-  unfolding child_number
-  first_of {ds} {es} h g =
-      let D : ℕ = number t_radices ds in
-      let E : ℕ = number u_radices es in
-      let F : List Pick → List Pick → Node = λ ps qs. settle k (kernel t) (kernel u) (joining ps) (joining qs) (new_equations ps ++ new_equations qs) st in
-      let part : drop (D * choices u_radices + E) (flat_map below (product P)) ≡ drop E (below (get_or (product P) D [])) ++ flat_map below (drop (suc D) (product P)) =
-      drop_flatMap below (choices u_radices) [] (widths (product P)) D E (number_of-t h) (omega (arith, number-below g)) in
-      let ps : get_or (product P) D [] ≡ chosen unread P ds = get_or-first D (product P) [] _ _ (place_of_t h) in
-      let inner : drop E (below (chosen unread P ds)) ≡ F (chosen unread P ds) (chosen unread Q es) ∷ map (F (chosen unread P ds)) (drop (suc E) (product Q)) =
-      drop-map (F (chosen unread P ds)) E (product Q) ∙ ap (map (F (chosen unread P ds))) (place_of_u g) in (
-        map (F (chosen unread P ds)) (drop (suc E) (product Q)) ++ flat_map below (drop (suc D) (product P)),
-        rw (split_is, ← settled h g) (part ∙ ap (λ qs. drop E (below qs) ++ flat_map below (drop (suc D) (product P))) ps ∙ ap (λ l. l ++ flat_map below (drop (suc D) (product P))) inner),
-      )
-
-  -- a child's digits tell its place among the children
-  pub drop-split : {ds es : List ℕ} → Digits t_radices ds → Digits u_radices es
-      → drop (child_number ds es) (split k t u st) ≡ child_of ds es ∷ drop (suc (child_number ds es)) (split k t u st)
-  drop-split {ds} {es} h g =
-      let p = first_of h g in
-      p.1 ∙ ap (λ l. child_of ds es ∷ l) (sym (drop-next (child_number ds es) (split k t u st) (child_of ds es) p.0 p.1))

@@ -6,7 +6,7 @@ use Rattle.terms.specs.Bounds.{edition_one}
 use Rattle.search.specs.declared.limits.Limits.{Limits}
 use Rattle.search.specs.State.{State, state_size}
 use Rattle.search.specs.Run.{visit}
-use Rattle.invariants.specs.Orderly.{Orderly}
+use Rattle.invariants.proofs.Orderly.{Orderly}
 use Rattle.search_laws.specs.Going.{to_come}
 use Rattle.rows.specs.Row.{Fresh}
 use Rattle.rows.specs.declared.header.Header.{Header}

@@ -18,8 +18,8 @@ use Rattle.search.specs.declared.limits.Limits.{Limits}
 use Rattle.search.specs.State.{State, Node, live, state_size}
 use Rattle.search.specs.Children.{children}
 use Rattle.search.specs.Run.{Visit, visit, Outcome, Answer, silent, states, found, found_size, overflows, goes_on, verdict}
-use Rattle.invariants.specs.Orderly.{Orderly}
-use Rattle.invariants.specs.Tree.{orderly_children, Live as IsLive, is_live}
+use Rattle.invariants.proofs.Orderly.{Orderly}
+use Rattle.invariants.proofs.Tree.{orderly_children, Live as IsLive, is_live}
 use Rattle.search.specs.Verdicts.{allowed}
 use Rattle.search_laws.specs.Going.{Open, resumed, left, to_come, run_goes_on, run_overflows}
 use Rattle.rows.specs.declared.parts.Reached.TheVariants.{Live}

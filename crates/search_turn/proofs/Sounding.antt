@@ -8,7 +8,7 @@ use Rattle.terms.specs.Formed.{Formed, Equation, sides}
 use Rattle.terms.specs.Answers.{Binding}
 use Rattle.terms.specs.Laws.FormedParts.{unknown_below}
 use Rattle.search.specs.State.{State}
-use Rattle.invariants.specs.Orderly.{Orderly, UsableSides}
+use Rattle.invariants.proofs.Orderly.{Orderly, UsableSides}
 use Rattle.binding.specs.At.{Sound}
 
 sides_formed : {arities : List ℕ} {n : ℕ} {bs : List Binding} {es : List Equation} → All (UsableSides arities n bs) es → All (Formed arities n) (sides es)

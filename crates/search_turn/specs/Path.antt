@@ -7,7 +7,7 @@ use Rattle.room.specs.Parts.{earlier, later, seg-put}
 use Rattle.room.specs.Layout.{HEADER, stride}
 use Rattle.terms.specs.Bounds.{edition_one}
 use Rattle.search.specs.State.{State, state_size}
-use Rattle.invariants.specs.Orderly.{Orderly}
+use Rattle.invariants.proofs.Orderly.{Orderly}
 use Rattle.search_laws.specs.Going.{Open}
 use Rattle.rows.specs.Row.{Holds, Fresh}
 use Rattle.visits.specs.ChildNumber.{number_words, number_none}

@@ -11,9 +11,9 @@ use lib.ListN.{length, get_or, set, length-set}
 use lib.Seq.{get_or-set_other}
 use borrow.Author.Tests.{eqb-true, eqb-false}
 use Rattle.terms.specs.Term.{Term}
-use Rattle.laws.specs.Agree.{agree}
+use Rattle.laws.proofs.Agree.{agree}
 use Rattle.laws.specs.Equal.{equal}
-use Rattle.laws.specs.Rank.{rank, rank-≈}
+use Rattle.laws.proofs.Rank.{rank, rank-≈}
 use Rattle.term_places.specs.Places.{Held, valued}
 use Rattle.term_places.specs.Classes.{Comparing, IsSettled, Settled, Same}
 use Rattle.ranks.specs.Ranks.{Ranked}

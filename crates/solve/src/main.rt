@@ -2,7 +2,7 @@
 // proves what is printed for what is read: here bytes are moved. A read or a write that fails ends the program with an error.
 #![tactic(auto)]
 
-use input::read_full;
+use full_reads::read_full;
 use printing::OUTPUT;
 use std::io;
 use std::io::Write;

@@ -17,7 +17,7 @@ use Rattle.search.specs.declared.limits.Limits.{Limits}
 use Rattle.search.specs.State.{start, size_equations, size_entries, size_bindings, state_size}
 use Rattle.search.specs.Run.{Visit, visit, root, ran}
 use Rattle.search.specs.StateWords.{pending_words, pile_words, state_words, length_pending}
-use Rattle.invariants.specs.Tree.{start_orderly}
+use Rattle.invariants.proofs.Tree.{start_orderly}
 use Rattle.search_laws.specs.Going.{left, resumed_none, left_none, to_come, to_come-root}
 use Rattle.rows.specs.Header.{header_of}
 use Rattle.rows.specs.Row.{Fresh, header_for, header_words}

@@ -20,7 +20,7 @@ use Rattle.results.specs.declared.ran.Ran.TheVariants.{Ended}
 use Rattle.results.specs.declared.ran.Ending.{Ending}
 use Rattle.results.specs.Loans.{needed}
 use Rattle.results.specs.Result.{told_within, RunGives}
-use Rattle.results.specs.Telling.{given_so, is_run}
+use Rattle.results.proofs.Telling.{given_so, is_run}
 use Rattle.search_turn.specs.Running.{Ends}
 use Rattle.search_turn.proofs.GoesOn.{needed_small}
 use Rattle.solver.specs.Start.{Asking, Bounded, whole_run}

@@ -7,7 +7,8 @@ use Rattle.std.proofs.Math.Numerals.{sub-one}
 use Rattle.std.proofs.Math.ListN.{length}
 use borrow.Author.Tests.{eq-eqb, ne_eqb}
 use Rattle.terms.specs.Laws.Flat.{size_positive}
-use Rattle.terms.specs.Kind.{takes, takes_empty, takes_functor}
+use Rattle.terms.specs.Kind.{takes, takes_empty}
+use Rattle.terms.proofs.KindLaws.{takes_functor}
 use Rattle.terms.specs.Reading.{top, taken}
 use Rattle.terms.specs.Term.{Term, Terms, functor, empty, more, size, size*}
 use Rattle.terms.specs.Bounds.{MEMBER}

@@ -5,7 +5,7 @@ use Rattle.std.proofs.Math.ListN.{length-map}
 use Rattle.terms.specs.Term.{Term}
 use Rattle.laws.specs.Laws.{≈refl, ≈sym, ≈trans}
 use Rattle.laws.specs.Equal.{equal}
-use Rattle.laws.specs.Agree.{agree}
+use Rattle.laws.proofs.Agree.{agree}
 use Rattle.term_places.specs.Places.{Held, valued}
 use Rattle.term_places.specs.Classes.{Classes, EachItsOwn, Coarser, relabel, relabelled}
 

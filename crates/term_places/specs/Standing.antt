@@ -16,7 +16,8 @@ use Rattle.terms.specs.Lists.{All, none, both, All-append}
 use Rattle.terms.specs.Reading.{read, top, taken, push, row_read}
 use Rattle.terms.specs.Term.{Term, unknown, empty, with, functor, more, words, words*, size, list}
 use Rattle.terms.specs.Term as term
-use Rattle.terms.specs.Laws.Walk.{Stands, stands_empty, stands_member, stands_unknown, stands_functor, words_stand, span, term_ends}
+use Rattle.terms.specs.Laws.Walk.{Stands, stands_empty, stands_member, stands_unknown, stands_functor, words_stand, span}
+use Rattle.terms.proofs.Walk.{term_ends}
 use Rattle.term_places.specs.Places.{terms_from, tree, end, Terms}
 
 -- ---- words with some of the first dropped

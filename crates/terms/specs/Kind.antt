@@ -176,8 +176,3 @@ module _ {b : Bounds} (proper : Proper b) where
     pub takes_unknown : (i : ℕ) → i < b.unknown_words → takes b arities (b.first_unknown + i) ≡ 0
     unfolding takes
     takes_unknown i h = rw (ne_eqb (b.first_unknown + i) MEMBER (λ e. omega arith), within_first b.first_unknown b.unknown_words i h)
-
-    pub takes_functor : (k : ℕ) → k < b.functor_words → takes b arities (b.first_functor + k) ≡ get_or arities k 0
-    takes_functor k h =
-        let e : b.first_functor + k - b.first_functor ≡ k = omega arith in
-        takes_table b arities (λ e. omega arith) (within_apart proper.apart h) (omega arith) ∙ rw e

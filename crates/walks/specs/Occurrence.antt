@@ -5,7 +5,8 @@ use Rattle.std.proofs.Common.{◌∙◌, arith, add-zero, add-suc, zero-add}
 use mathlib.Core.List.{List, [], ◌∷◌, ◌++◌, append_assoc}
 use borrow.Author.Tests.{ne_eqb}
 use Rattle.terms.specs.Bounds.{Bounds, MEMBER, EMPTY}
-use Rattle.terms.specs.Kind.{takes, takes_empty, takes_member, takes_unknown, takes_functor, apart_words, Worded}
+use Rattle.terms.specs.Kind.{takes, takes_empty, takes_member, takes_unknown, apart_words, Worded}
+use Rattle.terms.proofs.KindLaws.{takes_functor}
 use Rattle.terms.specs.Laws.Flat.{eqb_shift}
 use Rattle.terms.specs.Lists.{any, cases, cond_or}
 use Rattle.terms.specs.Shape.{is_unknown, number}

@@ -6,7 +6,8 @@ use Rattle.terms.specs.Bounds.{Bounds}
 use Rattle.terms.specs.Lists.{All, Any, none, both, here, there, All-append, Any-left, Any-right}
 use Rattle.search.specs.declared.ends.End.TheVariants.{Done}
 use Rattle.search.specs.Run.{Loan, Visit, Verdict, stops, overflows, goes_on, found, verdict, spend, after, scan}
-use Rattle.search.specs.Verdicts.{Judged, counted, judged, allowed, done_first}
+use Rattle.search.specs.Verdicts.{Judged, counted, allowed}
+use Rattle.search.proofs.Verdicts.{judged, done_first}
 
 pub scan_each : {P : List ℕ → Type 0} (b : Bounds) (l : Loan) {vs : List Visit} → All (λ v. v.next ≤ b.path_unknowns → All P (found b v.answer)) vs → All P (scan b l vs).answers
 unfolding scan after

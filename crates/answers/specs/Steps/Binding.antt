@@ -10,7 +10,7 @@ use Rattle.terms.specs.Formed.{Equation}
 use Rattle.laws.specs.Laws.{◌≈◌, ≈sym, ≈trans}
 use Rattle.laws.specs.Values.{Values, value, Holds}
 use Rattle.laws.specs.ValuesPut.{value-bound}
-use Rattle.laws.specs.Rank.{occurs_inside, occurs_cases, not_inside_itself}
+use Rattle.laws.proofs.Rank.{occurs_inside, occurs_cases, not_inside_itself}
 use Rattle.search.specs.State.{State, Node, dead, live, Entry}
 use Rattle.search.specs.Children.{replace_in, entries, others, released, kept, bound_state, bound, then_bound}
 use Rattle.search.specs.PileEntries.{All-entries, All-others}

@@ -13,14 +13,15 @@ use Rattle.terms.specs.Formed.{Formed, Equation}
 use Rattle.terms.specs.Listing.{Bound}
 use Rattle.laws.specs.Laws.{◌≈◌, ◌≈*◌, ≈sym, ≈more}
 use Rattle.laws.specs.Values.{Values, value, value*, given, GroundValues, Solves}
-use Rattle.laws.specs.Apart.{functor_parts}
-use Rattle.laws.specs.Members.{absorbed}
+use Rattle.laws.proofs.Apart.{functor_parts}
+use Rattle.laws.proofs.Members.{absorbed}
 use Rattle.laws.specs.ValuesPut.{value-over}
 use Rattle.search.specs.declared.steps.Step.{Step}
 use Rattle.search.specs.State.{State, Node, Entry, remade, pend, renewed}
 use Rattle.search.specs.Classify.{classify}
 use Rattle.search.specs.Children.{pairwise, take, joined, join, children_by, children}
-use Rattle.search.specs.StepView.{Sided, as_written, turned_round, Stepped, drops_unknown, drops_empty, binds, postpones, decomposes, splits, dead_buried, dead_functors, dead_clash, stepped, take_bind, take_postpone}
+use Rattle.search.specs.StepView.{Sided, as_written, turned_round, Stepped, drops_unknown, drops_empty, binds, postpones, decomposes, splits, dead_buried, dead_functors, dead_clash, take_bind, take_postpone}
+use Rattle.search.proofs.StepView.{stepped}
 use Rattle.search.specs.PileEntries.{All-others}
 use Rattle.terms.specs.Lists.{All-first}
 use Rattle.answers.specs.Steps.Meaning.{HoldsEntry, HoldsBinding, MeetsState, meets_live}

@@ -8,8 +8,8 @@ use Rattle.terms.specs.Term.{Term, unknown, empty, with, functor, occurs, member
 use Rattle.terms.specs.Shape.{is_unknown}
 use Rattle.laws.specs.Laws.{◌≈◌, ≈sym}
 use Rattle.laws.specs.Values.{Values, value}
-use Rattle.laws.specs.Apart.{functor_empty, with_empty, with_functor}
-use Rattle.laws.specs.Rank.{occurs_inside, not_inside_itself}
+use Rattle.laws.proofs.Apart.{functor_empty, with_empty, with_functor}
+use Rattle.laws.proofs.Rank.{occurs_inside, not_inside_itself}
 use Rattle.search.specs.StepView.{Buried, in_member, in_kernel, Clash, empty_functor, functor_empty as clash_functor_empty, empty_set, set_empty, functor_set, set_functor}
 
 inside_member : (x : ℕ) (t : Term) → Any (λ m. occurs x m ≡ true) (members t) → occurs_inside x t ≡ true

@@ -14,12 +14,13 @@ use Rattle.terms.specs.Laws.Substitution.{formed_wider, formed_subst}
 use Rattle.terms.specs.Answers.{Binding}
 use Rattle.terms.specs.Listing.{Bound}
 use Rattle.terms.specs.Laws.FormedParts.{formed_members, formed_kernel, formed_over, formed_list, unknown_below}
-use Rattle.laws.specs.Members.{kernel-over}
+use Rattle.laws.proofs.Members.{kernel-over}
 use Rattle.search.specs.declared.steps.Tails.{Tails}
 use Rattle.search.specs.declared.steps.Step.{Step}
 use Rattle.search.specs.State.{State, Node, dead, live, Entry, pend, piled, renewed}
 use Rattle.search.specs.Children.{replace_in, released, kept, bound_state, bound, then_bound, Pick, new_equations, pile_up, settle, pairwise, take, joined, without, join, children_by, children}
-use Rattle.search.specs.StepView.{Tailed, neither, left, right, different, same, Sided, Stepped, drops_unknown, drops_empty, binds, postpones, decomposes, splits, dead_buried, dead_functors, dead_clash, stepped, sided_name, sided_term, take_bind, take_postpone}
+use Rattle.search.specs.StepView.{Tailed, neither, left, right, different, same, Sided, Stepped, drops_unknown, drops_empty, binds, postpones, decomposes, splits, dead_buried, dead_functors, dead_clash, sided_name, sided_term, take_bind, take_postpone}
+use Rattle.search.proofs.StepView.{stepped}
 use Rattle.search.specs.PileEntries.{All-entries, All-others}
 use Rattle.answers.specs.Steps.Picks.{Chosen, no_choice, choice, Picks, picks_one, picks_tail, split-all, joining-all}
 use Rattle.answers.specs.Steps.Forming.{kernel-subst}

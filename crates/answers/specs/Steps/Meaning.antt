@@ -7,7 +7,7 @@ use Rattle.terms.specs.Term.{Term, members, kernel, over}
 use Rattle.terms.specs.Answers.{Binding}
 use Rattle.laws.specs.Laws.{◌≈◌}
 use Rattle.laws.specs.Values.{Values, value, Solves}
-use Rattle.laws.specs.Members.{rebuild}
+use Rattle.laws.proofs.Members.{rebuild}
 use Rattle.laws.specs.ValuesPut.{value-over}
 use Rattle.search.specs.State.{State, Node, dead, live, Entry}
 

@@ -13,9 +13,9 @@ use Rattle.terms.specs.Shape.{is_unknown}
 use Rattle.terms.specs.Formed.{Equation}
 use Rattle.laws.specs.Laws.{◌≈◌, ≈refl, In}
 use Rattle.laws.specs.Equal.{is_in}
-use Rattle.laws.specs.Agree.{is_in_agree}
+use Rattle.laws.proofs.Agree.{is_in_agree}
 use Rattle.laws.specs.Values.{Values, value, Holds, Solves}
-use Rattle.laws.specs.Tails.{those_in}
+use Rattle.laws.proofs.Tails.{those_in}
 use Rattle.search.specs.declared.steps.Tails.{Tails}
 use Rattle.search.specs.State.{State, Node}
 use Rattle.search.specs.Children.{Pick, meets, joins, tail_pick, picks_of_t, picks_of_u, new_equations, joining, settle, split}

@@ -7,9 +7,9 @@ use Rattle.terms.specs.Term.{Term, members, over}
 use Rattle.search.specs.State.{Entry}
 use Rattle.laws.specs.Laws.{◌≈◌, ≈sym, Within}
 use Rattle.laws.specs.Values.{Values, value}
-use Rattle.laws.specs.Agree.{apart}
-use Rattle.laws.specs.Members.{members-over, absorbed}
-use Rattle.laws.specs.Tails.{contained}
+use Rattle.laws.proofs.Agree.{apart}
+use Rattle.laws.proofs.Members.{members-over, absorbed}
+use Rattle.laws.proofs.Tails.{contained}
 use Rattle.search.specs.Children.{entries, joined}
 use Rattle.search.specs.PileEntries.{All-entries}
 use Rattle.answers.specs.Steps.Meaning.{HoldsEntry, written}

@@ -9,7 +9,7 @@ use Rattle.terms.specs.Laws.Substitution.{absent_above}
 use Rattle.laws.specs.Laws.{◌≈◌, ≈sym, ≈trans}
 use Rattle.laws.specs.Values.{Values, value, given, GroundValues, Holds}
 use Rattle.laws.specs.ValuesPut.{value-given}
-use Rattle.laws.specs.Solving.{ground_given}
+use Rattle.laws.proofs.Solving.{ground_given}
 use Rattle.search.specs.State.{State, Node}
 use Rattle.answers.specs.Steps.Meaning.{MeetsState, MeetsNode}
 use Rattle.answers.specs.Steps.Kept.{FormedEquation, Kept}

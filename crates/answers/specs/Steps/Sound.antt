@@ -12,14 +12,15 @@ use Rattle.terms.specs.Shape.{is_unknown, number, arguments}
 use Rattle.terms.specs.Formed.{Formed, formed_functor, Equation}
 use Rattle.laws.specs.Laws.{◌≈◌, ◌≈*◌, ≈refl, ≈sym, ≈trans, ≈functor, ≈none, ≈more, In, Within}
 use Rattle.laws.specs.Values.{Values, value, value*, Solves}
-use Rattle.laws.specs.Members.{within_self}
+use Rattle.laws.proofs.Members.{within_self}
 use Rattle.laws.specs.ValuesPut.{value-bound}
-use Rattle.laws.specs.Tails.{sound_different, sound_same}
+use Rattle.laws.proofs.Tails.{sound_different, sound_same}
 use Rattle.search.specs.declared.steps.Tails.{Tails}
 use Rattle.search.specs.declared.steps.Step.{Step}
 use Rattle.search.specs.State.{State, Node, Entry, pend, renewed}
 use Rattle.search.specs.Children.{bound, Pick, new_equations, joining, settle, split, pairwise, take, joined, without, join, children_by, children}
-use Rattle.search.specs.StepView.{Tailed, neither, left, right, different, same, Sided, as_written, turned_round, Stepped, drops_unknown, drops_empty, binds, postpones, decomposes, splits, dead_buried, dead_functors, dead_clash, stepped, take_bind, take_postpone}
+use Rattle.search.specs.StepView.{Tailed, neither, left, right, different, same, Sided, as_written, turned_round, Stepped, drops_unknown, drops_empty, binds, postpones, decomposes, splits, dead_buried, dead_functors, dead_clash, take_bind, take_postpone}
+use Rattle.search.proofs.StepView.{stepped}
 use Rattle.terms.specs.Lists.{All_unmap}
 use Rattle.answers.specs.Steps.Meaning.{HoldsEntry, HoldsBinding, MeetsState, MeetsNode, meets_live, of_live, of_dead, written, over-values}
 use Rattle.answers.specs.Steps.StateChanges.{before_added, before-piled, before-renewed, before-pile_up}

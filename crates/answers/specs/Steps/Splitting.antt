@@ -15,10 +15,10 @@ use Rattle.terms.specs.Shape.{is_unknown, number}
 use Rattle.terms.specs.Formed.{Formed, Equation}
 use Rattle.laws.specs.Laws.{◌≈◌, ≈sym, ≈trans}
 use Rattle.laws.specs.Values.{Values, value, given, GroundValues, Solves}
-use Rattle.laws.specs.Members.{kernel-over, kernel-kernel}
+use Rattle.laws.proofs.Members.{kernel-over, kernel-kernel}
 use Rattle.laws.specs.ValuesPut.{value-bound}
 use Rattle.terms.specs.Laws.FormedParts.{formed_kernel, unknown_below}
-use Rattle.laws.specs.Tails.{Met, met, those_in, shared, formed_shared, complete_neither, complete_left, complete_right, complete_different_left, complete_different_right, complete_same}
+use Rattle.laws.proofs.Tails.{Met, met, those_in, shared, formed_shared, complete_neither, complete_left, complete_right, complete_different_left, complete_different_right, complete_same}
 use Rattle.search.specs.declared.steps.Tails.{Tails}
 use Rattle.search.specs.State.{State, pend}
 use Rattle.search.specs.Children.{joining, settle, split}

@@ -12,8 +12,8 @@ eights-run : (c : Left-loop-run)
 eights-run c =
     let R = c.loop-run.invariant in
     elim c.loop-run-test.branch [
-      else-loop-run-test w ↦ rw w.room-is R
-    | then-loop-run-test+then-not-copy_eight w ↦ part_stays R _ (w.room-is ∙ rw w.if-not-copy_eight.true at w.copy_eight.ensures.room_after)
+      | else-loop-run-test w ↦ rw w.room-is R
+      | then-loop-run-test+then-not-copy_eight w ↦ part_stays R _ (w.room-is ∙ rw w.if-not-copy_eight.true at w.copy_eight.ensures.room_after)
     ]
 
 -- the second loop is at a turn's start, or left

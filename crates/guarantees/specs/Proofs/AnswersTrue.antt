@@ -10,7 +10,8 @@ use Rattle.search.specs.declared.ends.End.TheVariants.{Done}
 use Rattle.search.specs.Ends.{end_number}
 use Rattle.search.specs.Run.{Outcome, ran}
 use Rattle.answers.specs.Fits.{States, Meets, Fits}
-use Rattle.answers.specs.DemandTwo as demand
+use Rattle.answers.proofs.DemandTwo as demand
+use Rattle.answers.proofs.SolvedExactly as solved
 use Rattle.results.specs.Result.{gives}
 use Rattle.guarantees.specs.Calls.{Posed, asked, Lending, loan_of, run_told}
 use Rattle.guarantees.specs.Notions.{Granted, ReadOnce}
@@ -36,7 +37,7 @@ module _ (q : Posed) (l : Lending) (o : Outcome) (gave : run_told q l ≡ gives 
   answers_true = rw granted.outcome (demand.every_answer-true edition_one edition_one_proper (asked q) good (loan_of l))
 
   pub done_exactly : end_number o.end ≡ 0 → (table : List ℕ) (σ : Values) → GroundValues table σ → Solves σ (asked q).equations ↔ Any (Fits edition_one (asked q) table σ) o.answers
-  done_exactly d table σ grounded = rw granted.outcome (demand.demand_two edition_one edition_one_proper (asked q) good (loan_of l) (done d) table σ grounded)
+  done_exactly d table σ grounded = rw granted.outcome (solved.demand_two edition_one edition_one_proper (asked q) good (loan_of l) (done d) table σ grounded)
 
   pub done-without_answers : end_number o.end ≡ 0 → length o.answers ≡ 0 → (table : List ℕ) (σ : Values) → GroundValues table σ → Solves σ (asked q).equations → ⊥
   done-without_answers d z table σ grounded h = go o.answers z ((done_exactly d table σ grounded).0 h)

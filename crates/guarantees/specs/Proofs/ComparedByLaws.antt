@@ -12,9 +12,9 @@ use Rattle.terms.specs.declared.refusal.Checked.{Checked}
 use Rattle.terms.specs.declared.refusal.Checked.TheVariants as checked
 use Rattle.laws.specs.Laws.{◌≈◌}
 use Rattle.laws.specs.Equal.{equal}
-use Rattle.laws.specs.Agree.{agree}
+use Rattle.laws.proofs.Agree.{agree}
 use Rattle.laws.specs.Values.{Values, in_order, Solves, solves_test}
-use Rattle.laws.specs.Solving.{solves_agree}
+use Rattle.laws.proofs.Solving.{solves_agree}
 use Rattle.equality.specs.Answering.{equality_after, equal_answer, solving_after, solves_answer}
 use Rattle.results.specs.declared.compared.Equality.{Equality}
 use Rattle.results.specs.declared.compared.Equality.TheVariants as equality

@@ -24,7 +24,8 @@ use Rattle.search.specs.Ends.{end_number, end_of}
 use Rattle.search.specs.RunLimits.{most_steps}
 use Rattle.search.specs.Run.{Loan, Outcome, Visit, Verdict, stops, overflows, goes_on, found, found_size, ends, verdict, spend, after, scan, ran}
 use Rattle.answers.specs.Fits.{States}
-use Rattle.search.specs.Verdicts.{Judged, counted, judged}
+use Rattle.search.specs.Verdicts.{Judged, counted}
+use Rattle.search.proofs.Verdicts.{judged}
 use Rattle.word_writer.specs.Pen.{counted as as_counted}
 use Rattle.word_writer.specs.Depths.{First, all_within, first_at}
 use Rattle.writer.specs.Written.{check_list, tested, nested, fitted, list_written}

@@ -8,7 +8,7 @@ use Rattle.terms.specs.Answers.{listed}
 use Rattle.search.specs.declared.ends.End.TheVariants.{Done}
 use Rattle.search.specs.Ends.{end_number}
 use Rattle.search.specs.Run.{Loan, Outcome, ran}
-use Rattle.promises.specs.Promises
+use Rattle.promises.proofs.Promises
 use Rattle.promises.specs.Wording.{NoLess, Begins, followed_by}
 use Rattle.results.specs.Result.{gives}
 use Rattle.guarantees.specs.Calls.{Posed, asked, Lending, loan_of, in_room, run_told, answers_after, used}

@@ -26,7 +26,7 @@ use Rattle.search.specs.declared.limits.Lent.TheVariants.{Within, Above}
 use Rattle.search.specs.Ends.{end_number, end_of}
 use Rattle.search.specs.RunLimits.{lent}
 use Rattle.search.specs.Run.{Outcome, ran}
-use Rattle.promises.specs.Promises
+use Rattle.promises.proofs.Promises
 use Rattle.numerals.specs.TextReading.{Reading, and_then}
 use Rattle.term_reader.specs.ReadingPlaces.{Placed, goes_on, stops}
 use Rattle.reader.specs.LentBuffers.{question_into, answer}

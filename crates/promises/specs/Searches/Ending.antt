@@ -9,11 +9,11 @@ use Rattle.search.specs.State.{State, Node, dead, live, start}
 use Rattle.search.specs.Children.{children}
 use Rattle.search.specs.Run.{visit, visits, root}
 use Rattle.promises.specs.Searches.Measures.{Below, by_first, by_second, by_third, by_measures}
-use Rattle.invariants.specs.Orderly.{Orderly}
+use Rattle.invariants.proofs.Orderly.{Orderly}
 use Rattle.invariants.specs.Weight.{weights}
-use Rattle.invariants.specs.Falling.{unbound, Falls, ends_dead, fewer_unbound, lighter, shorter}
-use Rattle.invariants.specs.JoinFalls.{children_fall}
-use Rattle.invariants.specs.Tree.{FormedQuestion, start_orderly}
+use Rattle.invariants.proofs.Falling.{unbound, Falls, ends_dead, fewer_unbound, lighter, shorter}
+use Rattle.invariants.proofs.JoinFalls.{children_fall}
+use Rattle.invariants.proofs.Tree.{FormedQuestion, start_orderly}
 
 -- the tree from a node on has at most n levels
 abbrev pub Levels : ℕ → Node → Type 0

@@ -10,8 +10,9 @@ use Rattle.search.specs.State.{State, Node, dead, live}
 use Rattle.search.specs.Children.{children}
 use Rattle.search.specs.Run.{Loan, Visit, goes_on, visit, dead_visit, visits, found, found_size, spend, after, scan}
 use Rattle.promises.specs.Wording.{NoLess, all_found, whole}
-use Rattle.search.specs.Verdicts.{Allows, allowed, done_first}
-use Rattle.invariants.specs.Tree.{Live, is_dead, is_live}
+use Rattle.search.specs.Verdicts.{Allows, allowed}
+use Rattle.search.proofs.Verdicts.{done_first}
+use Rattle.invariants.proofs.Tree.{Live, is_dead, is_live}
 
 -- what a state hands on to its children holds all over its tree
 pub visits_each : (I : State → Type 0) (P : Visit → Type 0) → ((st : State) → I st → All (Live I) (children st)) → ((d : ℕ) → P (dead_visit d))

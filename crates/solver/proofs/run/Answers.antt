@@ -1,6 +1,6 @@
 -- `solver::run`: the limits are within their bounds, or refused.
 use mathlib.Core.Path.{sym, ◌∙◌}
-use Rattle.results.specs.Telling.{within_limits, above_limits}
+use Rattle.results.proofs.Telling.{within_limits, above_limits}
 use Rattle.solver.proofs.TestsPassed.{within_bounds}
 use Rattle.solver.proofs.run.Goals as goal
 

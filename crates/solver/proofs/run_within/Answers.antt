@@ -4,7 +4,7 @@ use native.Mathlib.Omega.{arith}
 use lib.Seq.{length-take-le}
 use Rattle.results.specs.Loans.{needed}
 use Rattle.search_turn.proofs.GoesOn.{needed_small}
-use Rattle.results.specs.Telling.{faulty, small_room}
+use Rattle.results.proofs.Telling.{faulty, small_room}
 use Rattle.solver.proofs.TestsPassed.{fine_run, asking}
 use Rattle.solver.proofs.run_within.Goals as goal
 

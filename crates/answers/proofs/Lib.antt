@@ -1,0 +1,4 @@
+pub mod DemandTwo
+pub mod SolvedExactly
+pub mod Examples
+pub mod Runs

@@ -1,0 +1,4 @@
+pub mod Falling
+pub mod JoinFalls
+pub mod Orderly
+pub mod Tree

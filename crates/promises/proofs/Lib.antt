@@ -1,0 +1,4 @@
+pub mod EditionTwo
+pub mod Examples
+pub mod Promises
+pub mod Searches

@@ -1,0 +1,2 @@
+pub mod StepView
+pub mod Verdicts
