@@ -1,5 +1,5 @@
 -- The digits of a child's number in the room: those that are written for a number, and the next ones after those that stand there.
-use Rattle.std.specs.Prelude.{ℕ, zero, suc, ◌+◌, ◌-◌, ◌*◌, ◌<◌, ◌≡◌, refl, List, [], ◌∷◌, ◌++◌, Bool, true, false, length}
+use Rattle.std.specs.Prelude.{ℕ, zero, suc, ◌+◌, ◌*◌, ◌<◌, ◌≡◌, refl, List, [], ◌∷◌, ◌++◌, Bool, true, false, length}
 use Rattle.std.proofs.Common.{ap, sym, ◌∙◌, true≢false, arith, zero-add, suc-add, zero-mul, suc-mul, add-mul, mul_assoc}
 use Rattle.room.specs.Room.{seg, put, Within, length-put, put-put, put-seg, seg-append}
 use Rattle.room.specs.Parts.{Apart, earlier, put_comm, seg-put}

@@ -1,6 +1,6 @@
 -- A split's parent in the room: its row, the noted places of its first equation's members, and the digits of the child that is due. What of the room
 -- must stay as it is while the child is made.
-use Rattle.std.specs.Prelude.{ℕ, ◌+◌, ◌-◌, ◌*◌, ◌<◌, ◌≤◌, ◌^◌, ◌≡◌, refl, List, ◌++◌, length}
+use Rattle.std.specs.Prelude.{ℕ, ◌+◌, ◌*◌, ◌<◌, ◌≤◌, ◌^◌, ◌≡◌, refl, List, ◌++◌, length}
 use Rattle.std.proofs.Common.{ap, sym, ◌∙◌, arith, zero-add}
 use Rattle.room.specs.Room.{seg, put, length-put, seg-seg}
 use Rattle.room.specs.Parts.{Apart, seg-put}

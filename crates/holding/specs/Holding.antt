@@ -1,5 +1,5 @@
 -- Equations that stand in words, one after the other, left then right, and the places of the values after them.
-use Rattle.std.specs.Prelude.{ℕ, zero, suc, ◌+◌, ◌*◌, ◌≤◌, ◌≡◌, List, [], ◌∷◌, ◌++◌, Bool, true, ◌&&◌, length, drop}
+use Rattle.std.specs.Prelude.{ℕ, zero, suc, ◌*◌, ◌≤◌, ◌≡◌, List, [], ◌∷◌, ◌++◌, Bool, true, ◌&&◌, length, drop}
 use Rattle.terms.specs.Bounds.{Bounds}
 use Rattle.terms.specs.Formed.{Formed, row}
 use Rattle.terms.specs.Kind.{Worded}

@@ -1,6 +1,6 @@
 -- A question's text, word by word: its lines with the walks over its terms.
 -- `QuestionWalk` of `writer` proves that over the words of a question this is the text of the question.
-use Rattle.std.specs.Prelude.{ℕ, zero, suc, ◌+◌, List, [], ◌∷◌, ◌++◌}
+use Rattle.std.specs.Prelude.{ℕ, zero, suc, List, [], ◌∷◌, ◌++◌}
 use Rattle.terms.specs.Bounds.{Bounds}
 use Rattle.text.specs.Keys.{edition_key, unknowns_key, arities_key, equations_key, left_key, right_key}
 use Rattle.text.specs.Text.{decimal, numbers, line}

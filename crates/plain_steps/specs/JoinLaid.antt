@@ -1,5 +1,5 @@
 -- The pile's first unknown bound to its entries' members over a new unknown: where the parts lie, and what the row then is.
-use Rattle.std.specs.Prelude.{ℕ, ◌+◌, ◌-◌, ◌<◌, ◌≤◌, ◌≡◌, List, [], ◌∷◌, ◌++◌, true, false, length, get_or}
+use Rattle.std.specs.Prelude.{ℕ, ◌+◌, ◌<◌, ◌≤◌, ◌≡◌, List, [], ◌∷◌, ◌++◌, true, false, length, get_or}
 use Rattle.room.specs.Room.{seg, put}
 use Rattle.room.specs.Parts.{Apart}
 use Rattle.room.specs.Layout.{HEADER}

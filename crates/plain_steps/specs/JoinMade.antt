@@ -1,5 +1,5 @@
 -- Nothing is pending: the row that a joined pile makes holds the state's only child.
-use Prim.Native.Nat.{ℕ, suc, ◌+◌, ◌-◌, ◌<◌, ◌≤◌}
+use Prim.Native.Nat.{ℕ, suc, ◌+◌, ◌<◌, ◌≤◌}
 use Rattle.std.proofs.Math.Path.{◌≡◌, refl, ap, sym}
 use Rattle.std.proofs.Common.{◌∙◌, lt-ltb}
 use mathlib.Core.List.{List, [], ◌∷◌, ◌++◌}

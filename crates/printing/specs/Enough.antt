@@ -1,6 +1,6 @@
 -- The sizes suffice: every good question's text is read and run, its list's text is shorter than the output, and no text is refused for want of space. A text is a
 -- list of bytes; that a good question's is shorter than the 32,768 that are read is `question-length` of text/specs/Sizes.antt.
-use Rattle.std.specs.Prelude.{ℕ, ◌+◌, ◌*◌, ◌≤◌, ◌<◌, ◌≡◌, List, length, replicate}
+use Rattle.std.specs.Prelude.{ℕ, ◌≤◌, ◌<◌, ◌≡◌, List, length, replicate}
 use Rattle.std.proofs.Math.Path.{refl}
 use native.Mathlib.Omega.{arith}
 use borrow.Author.Tests.{le-ltb, leb-true}

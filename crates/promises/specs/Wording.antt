@@ -1,5 +1,5 @@
 -- The words in which the promises are put. Whatever else they name is a definition of `terms` or of `search`, and `Solved` of `invariants`.
-use Rattle.std.specs.Prelude.{ℕ, ◌+◌, ◌≤◌, ◌≡◌, List, [], ◌∷◌, ◌++◌, length}
+use Rattle.std.specs.Prelude.{ℕ, ◌≤◌, ◌≡◌, List, [], ◌∷◌, ◌++◌, length}
 use Rattle.terms.specs.Bounds.{Bounds}
 use Rattle.terms.specs.Lists.{All}
 use Rattle.terms.specs.Answers.{Binding, answer_words}

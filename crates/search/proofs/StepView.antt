@@ -1,17 +1,14 @@
 -- Theorems of `specs/StepView.antt`, which rest on definitions that a must-fail edit turns.
-use Rattle.std.specs.Prelude.{ℕ, ◌≡◌, refl, List, [], ◌∷◌, Bool, true, false, cond, ◌&&◌, not, eqb}
-use Rattle.std.proofs.Common.{ap, ◌∙◌, sym, eqb-true}
-use Rattle.std.proofs.lemmas.Bool.{false≢true, eqb-false, not-true}
-use Rattle.terms.specs.Lists.{All, Any, none, both, any, any→, or_neither, and_left, and_right, and_both, cases}
+use Rattle.std.specs.Prelude.{ℕ, ◌≡◌, refl, Bool, true, false, cond, ◌&&◌, eqb}
+use Rattle.std.proofs.Common.{◌∙◌, sym, eqb-true}
+use Rattle.std.proofs.lemmas.Bool.{false≢true, eqb-false}
+use Rattle.terms.specs.Lists.{any, any→, and_both, cases}
 use Rattle.terms.specs.Term.{Term, Terms, unknown, empty, with, functor, occurs, members, kernel}
-use Rattle.terms.specs.Shape.{is_unknown, number, unknown_number}
+use Rattle.terms.specs.Shape.{is_unknown, number}
 use Rattle.search.specs.declared.steps.Tails.{Tails}
-use Rattle.search.specs.declared.steps.Tails.TheVariants.{Neither, Left, Right, Different, Same}
-use Rattle.search.specs.declared.steps.Step.{Step}
-use Rattle.search.specs.declared.steps.Step.TheVariants.{Drop, Bind, Postpone, Decompose, Split, Dead}
-use Rattle.search.specs.State.{State, Node, dead, live, piled}
-use Rattle.search.specs.Classify.{tails_by, tails, only_tail, meet_by, meet, classify}
-use Rattle.search.specs.Children.{subject, object, bound_state, bound, take}
+use Rattle.search.specs.declared.steps.Tails.TheVariants.{Different}
+use Rattle.search.specs.declared.steps.Step.TheVariants.{Drop, Decompose, Dead}
+use Rattle.search.specs.Classify.{only_tail, meet_by, meet, classify}
 use Rattle.search.specs.StepView.{tailed, Buried, occurs_where, tail_only, Sided, Stepped, in_member, in_kernel, as_written, turned_round, empty_functor, functor_empty, empty_set, set_empty, functor_set, set_functor, drops_unknown, drops_empty, binds, postpones, decomposes, splits, dead_buried, dead_functors, dead_clash}
 
 -- an unknown that is only the tail passes the test

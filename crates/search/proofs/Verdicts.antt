@@ -1,10 +1,9 @@
 -- Theorems of `specs/Verdicts.antt`, which rest on definitions that a must-fail edit turns.
-use Rattle.std.specs.Prelude.{ℕ, ◌≤◌, ◌<◌, ◌≡◌, refl, List, ◌∷◌, Bool, true, false, eqb, ltb, leb}
-use Rattle.std.proofs.Common.{eqb-true, ltb-true, ltb-false, leb-true, leb-false, ne_eqb, le-ltb, le-leb, arith}
+use Rattle.std.specs.Prelude.{◌≡◌, refl, List, ◌∷◌, Bool, true, false, eqb, ltb, leb}
+use Rattle.std.proofs.Common.{eqb-true, ltb-true, ltb-false, leb-true, leb-false, arith}
 use Rattle.std.proofs.lemmas.Bool.{eqb-false}
 use Rattle.terms.specs.Bounds.{Bounds}
-use Rattle.search.specs.declared.ends.End.{End}
-use Rattle.search.specs.declared.ends.End.TheVariants.{Done, Steps, Depth, Names, Size, Space}
+use Rattle.search.specs.declared.ends.End.TheVariants.{Done}
 use Rattle.search.specs.Run.{Loan, Visit, Verdict, stops, overflows, goes_on, found, found_size, ends, verdict, spend, after, scan}
 use Rattle.search.specs.Verdicts.{Allows, Judged, stops_not-done, space_not-done, steps_spent, too_deep, too_many_names, too_large, too_long, counted}
 

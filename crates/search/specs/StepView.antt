@@ -1,9 +1,9 @@
 -- What each step tells of its equation, for every proof about children: `stepped` says it of `classify t u`, and `tailed` of the tails.
 -- Last stand the laws that give `take` the unknown and the term by name, whichever side they stand on.
-use Rattle.std.specs.Prelude.{ℕ, ◌≡◌, refl, List, [], ◌∷◌, Bool, true, false, cond, ◌&&◌, not, eqb}
-use Rattle.std.proofs.Common.{ap, ◌∙◌, sym, eqb-true}
-use Rattle.std.proofs.lemmas.Bool.{false≢true, eqb-false, not-true}
-use Rattle.terms.specs.Lists.{All, Any, none, both, any, any→, or_neither, and_left, and_right, and_both, cases}
+use Rattle.std.specs.Prelude.{ℕ, ◌≡◌, refl, List, [], ◌∷◌, Bool, true, false, ◌&&◌, not, eqb}
+use Rattle.std.proofs.Common.{ap, ◌∙◌, eqb-true}
+use Rattle.std.proofs.lemmas.Bool.{eqb-false, not-true}
+use Rattle.terms.specs.Lists.{All, Any, none, both, any, or_neither, and_left, and_right, cases}
 use Rattle.terms.specs.Term.{Term, Terms, unknown, empty, with, functor, occurs, members, kernel}
 use Rattle.terms.specs.Shape.{is_unknown, number, unknown_number}
 use Rattle.search.specs.declared.steps.Tails.{Tails}
@@ -11,7 +11,7 @@ use Rattle.search.specs.declared.steps.Tails.TheVariants.{Neither, Left, Right, 
 use Rattle.search.specs.declared.steps.Step.{Step}
 use Rattle.search.specs.declared.steps.Step.TheVariants.{Drop, Bind, Postpone, Decompose, Split, Dead}
 use Rattle.search.specs.State.{State, Node, dead, live, piled}
-use Rattle.search.specs.Classify.{tails_by, tails, only_tail, meet_by, meet, classify}
+use Rattle.search.specs.Classify.{tails_by, tails, only_tail}
 use Rattle.search.specs.Children.{subject, object, bound_state, bound, take}
 
 -- ---- the tails s and r of two sides

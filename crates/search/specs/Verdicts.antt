@@ -1,12 +1,11 @@
 -- What the table of ends says of a due node, as facts of what is lent: `judged` gives for each verdict what decided it. And what a run that is done
 -- says of its first node.
-use Rattle.std.specs.Prelude.{ℕ, ◌≤◌, ◌<◌, ◌≡◌, refl, List, ◌∷◌, Bool, true, false, eqb, ltb, leb}
-use Rattle.std.proofs.Common.{eqb-true, ltb-true, ltb-false, leb-true, leb-false, ne_eqb, le-ltb, le-leb, arith}
-use Rattle.std.proofs.lemmas.Bool.{eqb-false}
+use Rattle.std.specs.Prelude.{ℕ, ◌≤◌, ◌<◌, ◌≡◌}
+use Rattle.std.proofs.Common.{ne_eqb, le-ltb, le-leb, arith}
 use Rattle.terms.specs.Bounds.{Bounds}
 use Rattle.search.specs.declared.ends.End.{End}
 use Rattle.search.specs.declared.ends.End.TheVariants.{Done, Steps, Depth, Names, Size, Space}
-use Rattle.search.specs.Run.{Loan, Visit, Verdict, stops, overflows, goes_on, found, found_size, ends, verdict, spend, after, scan}
+use Rattle.search.specs.Run.{Loan, Visit, Verdict, stops, overflows, goes_on, found_size, ends, verdict}
 
 -- what is lent lets a node be counted, and holds its answer
 pub record Allows (b : Bounds) (l : Loan) (v : Visit) : Type 0 where

@@ -1,21 +1,19 @@
 -- Where a child of a split stands among the children, by its digits: `Picking` has what they give.
-use Prim.Native.Nat.{ℕ, zero, suc, ◌+◌, ◌*◌, ◌≤◌, ◌<◌}
-use Rattle.std.specs.Prelude.{◌≡◌, Bool, cond, ltb}
-use Rattle.std.proofs.Math.Path.{refl, ap}
-use Rattle.std.proofs.Common.{sym, ◌∙◌, ltb-true, ltb-false, arith}
-use Rattle.std.proofs.Math.Bool.{true, false}
+use Prim.Native.Nat.{ℕ, suc, ◌+◌, ◌*◌, ◌<◌}
+use Rattle.std.specs.Prelude.{◌≡◌}
+use Rattle.std.proofs.Math.Path.{ap}
+use Rattle.std.proofs.Common.{sym, ◌∙◌, arith}
 use mathlib.Core.List.{List, [], ◌∷◌, ◌++◌, map, flat_map}
-use Rattle.std.proofs.Math.ListN.{length, drop, get_or, length-append, length-map, get_or-append}
-use Rattle.std.proofs.Math.Seq.{get_or_at}
-use Rattle.terms.specs.Lists.{All, none, both, product, cases}
-use Rattle.terms.specs.Term.{Term, empty, members, kernel}
+use Rattle.std.proofs.Math.ListN.{length, drop, get_or}
+use Rattle.terms.specs.Lists.{product}
+use Rattle.terms.specs.Term.{Term, members, kernel}
 use Rattle.terms.specs.Formed.{Equation}
 use Rattle.terms.specs.Shape.{is_unknown}
 use Rattle.search.specs.declared.steps.Tails.{Tails}
 use Rattle.search.specs.State.{State, Node}
-use Rattle.search.specs.Children.{Pick, meets, joins, tail_pick, picks_of_t, picks_of_u, new_equations, joining, settle, split}
-use Rattle.search_laws.specs.ChoiceNumbers.{drop-next, get_or-first, drop-map, drop_flatMap, length_flatMap, choices, number, Digits, no_digit, digit, number-below, chosen, radices, length-product, drop-product}
-use Rattle.search_laws.specs.Picking.{unread, picks, equations_by, joining_by, radices-picks, equations-chosen, joining-chosen, t_radices, u_radices, child_of, child_number, split_is, widths}
+use Rattle.search.specs.Children.{Pick, new_equations, joining, settle, split}
+use Rattle.search_laws.specs.ChoiceNumbers.{drop-next, get_or-first, drop-map, drop_flatMap, choices, number, Digits, number-below, chosen, radices, length-product, drop-product}
+use Rattle.search_laws.specs.Picking.{unread, picks, radices-picks, equations-chosen, joining-chosen, t_radices, u_radices, child_of, child_number, split_is, widths}
 
 module _ (k : Tails) (t u : Term) (st : State) where
   -- the two sides, as in `Picking`

@@ -1,6 +1,6 @@
 -- The choices of a product of lists by number: digits in a mixed radix, the first slowest. A choice's number tells how many stand before it, so
 -- a loop that counts a number up, or advances its digits, goes through the product in order.
-use Prim.Native.Nat.{ℕ, zero, suc, ◌+◌, ◌-◌, ◌*◌, ◌≤◌, ◌<◌}
+use Prim.Native.Nat.{ℕ, zero, suc, ◌+◌, ◌*◌, ◌≤◌, ◌<◌}
 use Rattle.std.specs.Prelude.{◌≡◌}
 use Rattle.std.proofs.Math.Path.{refl, sym, ap}
 use Rattle.std.proofs.Common.{◌∙◌, drop-drop, get_or-drop, arith, one-mul, add-mul, mul_assoc, mul-le-mul_right}

@@ -3,10 +3,10 @@
 use Prim.Native.Nat.{ℕ, zero, suc, ◌+◌, ◌*◌, ◌≤◌, ◌<◌}
 use Rattle.std.specs.Prelude.{◌≡◌, Bool, cond, ltb}
 use Rattle.std.proofs.Math.Path.{refl, ap}
-use Rattle.std.proofs.Common.{sym, ◌∙◌, ltb-true, ltb-false, arith}
+use Rattle.std.proofs.Common.{◌∙◌, ltb-true, ltb-false, arith}
 use Rattle.std.proofs.Math.Bool.{true, false}
 use mathlib.Core.List.{List, [], ◌∷◌, ◌++◌, map, flat_map}
-use Rattle.std.proofs.Math.ListN.{length, drop, get_or, length-append, length-map, get_or-append}
+use Rattle.std.proofs.Math.ListN.{length, get_or, length-append, length-map, get_or-append}
 use Rattle.std.proofs.Math.Seq.{get_or_at}
 use Rattle.terms.specs.Lists.{All, none, both, product, cases}
 use Rattle.terms.specs.Term.{Term, empty, members, kernel}
@@ -15,7 +15,7 @@ use Rattle.terms.specs.Shape.{is_unknown}
 use Rattle.search.specs.declared.steps.Tails.{Tails}
 use Rattle.search.specs.State.{State, Node}
 use Rattle.search.specs.Children.{Pick, meets, joins, tail_pick, picks_of_t, picks_of_u, new_equations, joining, settle, split}
-use Rattle.search_laws.specs.ChoiceNumbers.{drop-next, get_or-first, drop-map, drop_flatMap, length_flatMap, choices, number, Digits, no_digit, digit, number-below, chosen, radices, length-product, drop-product}
+use Rattle.search_laws.specs.ChoiceNumbers.{length_flatMap, choices, number, Digits, no_digit, digit, chosen, radices, length-product}
 
 -- ---- one member's picks
 

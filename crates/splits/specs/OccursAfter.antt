@@ -1,5 +1,5 @@
 -- Where an unknown occurs after another is replaced, and in a set of members. A binding makes no state smaller.
-use Prim.Native.Nat.{ℕ, ◌+◌, ◌-◌, ◌<◌, ◌≤◌}
+use Prim.Native.Nat.{ℕ, ◌+◌, ◌<◌, ◌≤◌}
 use Rattle.std.specs.Prelude.{◌≡◌, refl, Bool, true, false, ◌||◌, ◌&&◌, eqb}
 use Rattle.std.proofs.Math.Path.{ap}
 use Rattle.std.proofs.Common.{sym, ◌∙◌, arith, eqb-true, ne_eqb}

@@ -1,5 +1,5 @@
 -- Two unknowns bound one after the other, to sets that share a new tail: U and T laid out in scratch, and the second binding.
-use Rattle.std.specs.Prelude.{ℕ, ◌+◌, ◌-◌, ◌*◌, ◌<◌, ◌≤◌, ◌^◌, ◌≡◌, List, length}
+use Rattle.std.specs.Prelude.{ℕ, ◌+◌, ◌*◌, ◌<◌, ◌≤◌, ◌^◌, ◌≡◌, List, length}
 use Rattle.room.specs.Room.{seg, put, Within}
 use Rattle.room.specs.Parts.{Apart}
 use Rattle.room.specs.Layout.{HEADER, stride, value_row, second_row, shared_row}

@@ -1,5 +1,5 @@
 -- A child of a split that binds an unknown to a term, whose words stand somewhere in the room.
-use Rattle.std.specs.Prelude.{ℕ, ◌+◌, ◌-◌, ◌*◌, ◌<◌, ◌≤◌, ◌≡◌, List}
+use Rattle.std.specs.Prelude.{ℕ, ◌+◌, ◌*◌, ◌<◌, ◌≤◌, ◌≡◌, List}
 use Rattle.room.specs.Room.{Within}
 use Rattle.room.specs.Parts.{Apart}
 use Rattle.room.specs.Layout.{stride}

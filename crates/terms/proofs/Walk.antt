@@ -1,12 +1,12 @@
 -- Theorems of `specs/Laws/Walk.antt`, which rest on definitions that a must-fail edit turns.
-use Rattle.std.specs.Prelude.{ℕ, zero, suc, ◌+◌, ◌<◌, ◌≤◌, ◌^◌, ◌≡◌, refl, List, [], ◌∷◌, ◌++◌}
+use Rattle.std.specs.Prelude.{ℕ, suc, ◌+◌, ◌≡◌, List, ◌∷◌, ◌++◌}
 use Rattle.std.proofs.Common.{ap, ◌∙◌, append_assoc, arith, add-zero, zero-add}
 use Rattle.std.proofs.Math.Nat.{add-suc}
 use Rattle.std.proofs.Math.ListN.{length, length-append}
 use Rattle.terms.specs.Bounds.{Bounds}
 use Rattle.terms.specs.Kind.{takes, takes_empty, takes_member, takes_unknown, Worded}
 use Rattle.terms.proofs.KindLaws.{takes_functor}
-use Rattle.terms.specs.Lists.{All, none, both, All-append, All-front, All-back}
+use Rattle.terms.specs.Lists.{All, none, both, All-front, All-back}
 use Rattle.terms.specs.Term.{Term, Terms, words, words*, size, size*, count}
 use Rattle.terms.specs.Formed.{Formed, Formed*, formed_unknown, formed_empty, formed_with, formed_functor, formed_none, formed_more, row}
 use Rattle.terms.specs.Laws.Flat.{length_words}

@@ -1,6 +1,6 @@
 -- Formed terms: each unknown is one of the first n, each functor is of the table and has as many arguments as its arity.
 -- A term is ground where n is 0. Questions, and when a question is good: SPECIFICATION 1.1 and 3.2.
-use Rattle.std.specs.Prelude.{ℕ, ◌+◌, ◌<◌, ◌≤◌, ◌≡◌, List, [], ◌∷◌, ◌++◌, length, get_or}
+use Rattle.std.specs.Prelude.{ℕ, ◌<◌, ◌≤◌, ◌≡◌, List, [], ◌∷◌, ◌++◌, length, get_or}
 use Rattle.terms.specs.Bounds.{Bounds}
 use Rattle.terms.specs.Lists.{All}
 use Rattle.terms.specs.Term.{Term, Terms, unknown, empty, with, functor, none, more, words, count}

@@ -1,21 +1,16 @@
 -- Names: no path makes more new unknowns than the question has unknowns. Before the pile's turn each new unknown costs two bound ones; from then on
 -- each costs an unknown that waits in the pile, and none comes to wait any more.
-use Rattle.std.specs.Prelude.{ℕ, ◌+◌, ◌≤◌, ◌<◌, ◌≡◌, List, [], true, false, not, eqb}
+use Rattle.std.specs.Prelude.{ℕ, ◌+◌, ◌≤◌, ◌≡◌, List, [], true, false, not, eqb}
 use Rattle.std.proofs.Common.{ap, eqb-true, arith}
-use Rattle.terms.specs.Bounds.{Bounds}
-use Rattle.terms.specs.Lists.{All, Any, none as All-none, both, any→, All-map, Any_with, Any-out}
+use Rattle.terms.specs.Lists.{All, Any, any→, All-map, Any_with, Any-out}
 use Rattle.terms.specs.Formed.{Question}
-use Rattle.search.specs.declared.ends.End.{End}
-use Rattle.search.specs.declared.ends.End.TheVariants.{Names}
 use Rattle.search.specs.State.{State, Node, live, Entry, start}
-use Rattle.search.specs.Run.{Loan, Visit, Verdict, stops, overflows, goes_on, visit, dead_visit, visits, root, found, verdict, spend, after, scan, ran}
+use Rattle.search.specs.Run.{visit, dead_visit, visits, root}
 use Rattle.invariants.specs.Tally.{tally_no_more, tally-most}
 use Rattle.invariants.proofs.Orderly.{named, Orderly, usable_unbound}
 use Rattle.invariants.specs.Weight.{weights}
 use Rattle.invariants.proofs.Falling.{waits, unbound, waiting, Falls, ends_dead, fewer_unbound, lighter, shorter}
 use Rattle.invariants.proofs.JoinFalls.{children_fall}
-use Rattle.search.specs.Verdicts.{Judged, steps_spent, too_deep, too_many_names, too_large}
-use Rattle.search.proofs.Verdicts.{judged}
 use Rattle.promises.specs.Searches.Visiting.{visits_each}
 use Rattle.invariants.proofs.Tree.{FormedQuestion, start_orderly, Live, is_dead, is_live}
 

@@ -1,15 +1,13 @@
 -- Walks over words with a counter of terms still due: each word lowers it by one and raises it by the terms that follow. One law, `past`, carries every
 -- such walk over a whole term. Here is the walk to the end of terms; the check, the members and occurrence have theirs in files of their own.
-use Rattle.std.specs.Prelude.{ℕ, zero, suc, ◌+◌, ◌<◌, ◌≤◌, ◌^◌, ◌≡◌, refl, List, [], ◌∷◌, ◌++◌}
-use Rattle.std.proofs.Common.{ap, ◌∙◌, append_assoc, arith, add-zero, zero-add}
-use Rattle.std.proofs.Math.Nat.{add-suc}
-use Rattle.std.proofs.Math.ListN.{length, length-append}
+use Rattle.std.specs.Prelude.{ℕ, zero, suc, ◌+◌, ◌<◌, ◌≤◌, ◌^◌, ◌≡◌, refl, List, [], ◌∷◌}
+use Rattle.std.proofs.Common.{ap, arith}
+use Rattle.std.proofs.Math.ListN.{length}
 use Rattle.terms.specs.Bounds.{Bounds}
-use Rattle.terms.specs.Kind.{takes, takes_empty, takes_member, takes_unknown, Worded}
-use Rattle.terms.specs.Lists.{All, none, both, All-append, All-front, All-back}
-use Rattle.terms.specs.Term.{Term, Terms, words, words*, size, size*, count}
-use Rattle.terms.specs.Formed.{Formed, Formed*, formed_unknown, formed_empty, formed_with, formed_functor, formed_none, formed_more, row}
-use Rattle.terms.specs.Laws.Flat.{length_words}
+use Rattle.terms.specs.Kind.{takes}
+use Rattle.terms.specs.Lists.{All, none, both, All-append}
+use Rattle.terms.specs.Term.{Term, Terms, words, words*}
+use Rattle.terms.specs.Formed.{Formed, Formed*, formed_unknown, formed_empty, formed_with, formed_functor, formed_none, formed_more}
 
 -- how many words the first terms take, so many as are due; all, where words stop before that
 unfoldable pub span : Bounds → List ℕ → List ℕ → (due : ℕ) → ℕ

@@ -1,4 +1,4 @@
-use Rattle.std.proofs.Common.{sym, refl}
+use Rattle.std.proofs.Common.{sym}
 use Rattle.case_fields.proofs.DecimalDigits.{below-digits, above-digits, too_large, one_more}
 use Rattle.case_fields.proofs.number.add_digit.Goals as goal
 
