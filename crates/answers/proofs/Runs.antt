@@ -1,3 +1,3 @@
--- From the steps to a whole run: the tree (`TreeAnswers`), the list of visits (`ScannedVisits`), the words of answers (`Stated`) and the listed answers (`Listed`).
+-- From the steps to a whole run: the tree (`TreeAnswers`) and the listed answers (`Listed`).
 pub mod Listed
 pub mod TreeAnswers

@@ -1,5 +1,5 @@
--- What follows of searches and runs: more lent, same list (`Agreeing`, `Lending`); the visits of a tree (`Visiting`); that it
--- ends (`Measures`, `Ending`, `Completing`); names, the form of answers.
+-- What follows of searches and runs, on top of specs/Searches: more lent, same list (`Lending`); a loan that is enough (`Completing`); names (`Naming`,
+-- `NamesLeft`), the form of answers (`AnswerForms`).
 pub mod AnswerForms
 pub mod Completing
 pub mod Lending

@@ -1,5 +1,5 @@
--- What follows of searches and runs: more lent, same list (`Agreeing`, `Lending`); the visits of a tree (`Visiting`); that it
--- ends (`Measures`, `Ending`, `Completing`); names, the form of answers.
+-- What follows of searches and runs: more lent, same list (`Agreeing`); the visits of a tree (`Visiting`); that it ends (`Measures`, `Ending`). proofs/Searches
+-- has the rest.
 pub mod Agreeing
 pub mod Visiting
 pub mod Measures

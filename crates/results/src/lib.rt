@@ -1,7 +1,7 @@
 // What each call gives back: a question that was read, a text that was written, whether terms are equal and values solve, and how a run ended; each with the
 // refusal where there is one.
 //
-// In specs/, `Loans` says what a run is lent and what its outcome tells, `Result` what a run gives for any input, and `Telling` has it test by test.
+// In specs/, `Loans` says what a run is lent and what its outcome tells, `Result` what a run gives for any input; proofs/Telling has it test by test.
 #![tactic(auto)]
 
 pub mod compared;

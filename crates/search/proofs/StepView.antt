@@ -1,4 +1,4 @@
--- Theorems of `specs/StepView.antt`, which rest on definitions that a must-fail edit turns.
+-- What each step tells of its equation, once and for all: every equation is as `Stepped` says of the step that `classify` gives it.
 use Rattle.std.specs.Prelude.{ℕ, ◌≡◌, refl, Bool, true, false, cond, ◌&&◌, eqb}
 use Rattle.std.proofs.Common.{◌∙◌, sym, eqb-true}
 use Rattle.std.proofs.lemmas.Bool.{false≢true, eqb-false}

@@ -1,4 +1,4 @@
--- Theorems of `specs/Verdicts.antt`, which rest on definitions that a must-fail edit turns.
+-- What a verdict tells of its visit, once and for all, and that a run that is done has looked at its first visit.
 use Rattle.std.specs.Prelude.{◌≡◌, refl, List, ◌∷◌, Bool, true, false, eqb, ltb, leb}
 use Rattle.std.proofs.Common.{eqb-true, ltb-true, ltb-false, leb-true, leb-false, arith}
 use Rattle.std.proofs.lemmas.Bool.{eqb-false}

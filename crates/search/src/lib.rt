@@ -6,7 +6,8 @@
 //     ends      how a run ends
 //
 // In specs/, `State`, `Classify`, `Children` and `Run` are the search, in the order of SPECIFICATION 5 and 6; `Specimens` is the table of 11, computed. `StepView`
-// says what each step tells of its equation: laws, for the proofs of the floors above.
+// has what each step tells of its equation, and `Verdicts` what a verdict tells of its visit: laws, for the proofs of the floors above, which stand in
+// proofs/StepView and proofs/Verdicts.
 #![tactic(auto)]
 
 pub mod ends;

@@ -1,4 +1,4 @@
--- Theorems of `specs/Kind.antt`, which rest on definitions that a must-fail edit turns.
+-- What follows a functor's word: as many terms as its arity says.
 use Rattle.std.specs.Prelude.{ℕ, ◌+◌, ◌-◌, ◌<◌, ◌≡◌, List, get_or}
 use Rattle.std.proofs.Common.{◌∙◌}
 use native.Mathlib.Omega.{arith}

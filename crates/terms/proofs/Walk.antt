@@ -1,4 +1,5 @@
--- Theorems of `specs/Laws/Walk.antt`, which rest on definitions that a must-fail edit turns.
+-- One law for all walks over words with a counter of terms due (specs/Laws/Walk has the walk to the end of terms): they go past a whole term. So terms end
+-- where their words do.
 use Rattle.std.specs.Prelude.{ℕ, suc, ◌+◌, ◌≡◌, List, ◌∷◌, ◌++◌}
 use Rattle.std.proofs.Common.{ap, ◌∙◌, append_assoc, arith, add-zero, zero-add}
 use Rattle.std.proofs.Math.Nat.{add-suc}

@@ -13,8 +13,8 @@ join_pile-next-requires c =
 
 pub returns-then-header-eq0 : goal.returns-then-header-eq0
 returns-then-header-eq0 c =
-    let read-header-told = c.read_header-header.ensures in
-    λ st R. looks_kept (c.join_pile-next.ensures st (nothing_pending R read-header-told c.if-header-eq0.true))
+    let read_header_told = c.read_header-header.ensures in
+    λ st R. looks_kept (c.join_pile-next.ensures st (nothing_pending R read_header_told c.if-header-eq0.true))
 
 pub overflow_add-last : goal.overflow_add-last
 overflow_add-last c =
@@ -31,37 +31,37 @@ first_of-first-requires c = lent_small c.requires.1 c.read_header-header.ensures
 
 pub rest_of-rest-requires : goal.rest_of-rest-requires
 rest_of-rest-requires c =
-    let read-header-told = c.read_header-header.ensures in
-    rest-asked c.requires.1 read-header-told c.if-header-eq0.false c.first_of-first.ensures
+    let read_header_told = c.read_header-header.ensures in
+    rest-asked c.requires.1 read_header_told c.if-header-eq0.false c.first_of-first.ensures
 
 pub pick-next-requires : goal.pick-next-requires
 pick-next-requires c =
-    let read-header-told = c.read_header-header.ensures in
+    let read_header_told = c.read_header-header.ensures in
     let if1 = c.if-header-eq0.false in
-    let first-of-told = c.first_of-first.ensures in
-    record { state = _; first = _; others = _; here = splitting c.requires.1 read-header-told if1 first-of-told c.rest_of-rest.ensures (split_step _ (sym c.way_of.ensures ∙ c.in-Split.is)) }
+    let first_of_told = c.first_of-first.ensures in
+    record { state = _; first = _; others = _; here = splitting c.requires.1 read_header_told if1 first_of_told c.rest_of-rest.ensures (split_step _ (sym c.way_of.ensures ∙ c.in-Split.is)) }
 
 pub step_on-next-requires : goal.step_on-next-requires
 step_on-next-requires c =
-    let read-header-told = c.read_header-header.ensures in
+    let read_header_told = c.read_header-header.ensures in
     let if1 = c.if-header-eq0.false in
-    let first-of-told = c.first_of-first.ensures in
-    record { state = _; equation = _; others = _; here = single c.requires.1 read-header-told if1 first-of-told c.rest_of-rest.ensures (plain_step _ (sym c.way_of.ensures ∙ c.in-Plain.is)) }
+    let first_of_told = c.first_of-first.ensures in
+    record { state = _; equation = _; others = _; here = single c.requires.1 read_header_told if1 first_of_told c.rest_of-rest.ensures (plain_step _ (sym c.way_of.ensures ∙ c.in-Plain.is)) }
 
 pub returns-in-Split : goal.returns-in-Split
 returns-in-Split c =
-    let read-header-told = c.read_header-header.ensures in
+    let read_header_told = c.read_header-header.ensures in
     let if1 = c.if-header-eq0.false in
-    let first-of-told = c.first_of-first.ensures in
-    let rest-of-told = c.rest_of-rest.ensures in
-    let way-of-told = c.way_of.ensures in
-    λ st R. looks_opened (c.pick-next.ensures st _ _ (splitting R read-header-told if1 first-of-told rest-of-told (split_step _ (sym way-of-told ∙ c.in-Split.is))))
+    let first_of_told = c.first_of-first.ensures in
+    let rest_of_told = c.rest_of-rest.ensures in
+    let way_of_told = c.way_of.ensures in
+    λ st R. looks_opened (c.pick-next.ensures st _ _ (splitting R read_header_told if1 first_of_told rest_of_told (split_step _ (sym way_of_told ∙ c.in-Split.is))))
 
 pub returns-in-Plain : goal.returns-in-Plain
 returns-in-Plain c =
-    let read-header-told = c.read_header-header.ensures in
+    let read_header_told = c.read_header-header.ensures in
     let if1 = c.if-header-eq0.false in
-    let first-of-told = c.first_of-first.ensures in
-    let rest-of-told = c.rest_of-rest.ensures in
-    let way-of-told = c.way_of.ensures in
-    λ st R. looks_kept (c.step_on-next.ensures st _ _ (single R read-header-told if1 first-of-told rest-of-told (plain_step _ (sym way-of-told ∙ c.in-Plain.is))))
+    let first_of_told = c.first_of-first.ensures in
+    let rest_of_told = c.rest_of-rest.ensures in
+    let way_of_told = c.way_of.ensures in
+    λ st R. looks_kept (c.step_on-next.ensures st _ _ (single R read_header_told if1 first_of_told rest_of_told (plain_step _ (sym way_of_told ∙ c.in-Plain.is))))

@@ -6,10 +6,10 @@ use Rattle.eights.proofs.copy_before.Goals.{At-loop-run-2, Left-loop-run, else-l
 use Rattle.eights.proofs.copy_before.Goals as goal
 
 -- the first loop is left
-eights-run : (c : Left-loop-run)
+eights_run : (c : Left-loop-run)
     → let a = c.args in
     Running a.room.now a.from a.n a.x a.to c.loop-run-test.room c.loop-run.run
-eights-run c =
+eights_run c =
     let R = c.loop-run.invariant in
     elim c.loop-run-test.branch [
       | else-loop-run-test w ↦ rw w.room-is R
@@ -20,7 +20,7 @@ eights-run c =
 running : (c : At-loop-run-2)
     → let a = c.args in
     Running a.room.now a.from a.n a.x a.to c.loop-run-2.room c.loop-run-2.run
-running c = c.loop-run-2.invariant _ (eights-run c.before)
+running c = c.loop-run-2.invariant _ (eights_run c.before)
 
 pub loop-run-init : goal.loop-run-init
 loop-run-init c = none_run c.requires

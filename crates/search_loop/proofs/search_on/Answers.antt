@@ -11,8 +11,8 @@ take_turn-taken-requires c = (c.loop-next.invariant.to, c.loop-next.invariant.ru
 pub loop-next-smaller : goal.loop-next-smaller
 loop-next-smaller c =
     let invariant = c.loop-next.invariant in
-    let take-turn-told = c.take_turn-taken.ensures in
-    less invariant take-turn-told c.in-At.is
+    let take_turn_told = c.take_turn-taken.ensures in
+    less invariant take_turn_told c.in-At.is
 
 pub loop-next-preserved : goal.loop-next-preserved
 loop-next-preserved c =
@@ -27,5 +27,5 @@ shape_of-room-in-End c = c.room-1.given ∙ c.loop-next.invariant.room_long
 pub returns-in-End : goal.returns-in-End
 returns-in-End c =
     let invariant = c.loop-next.invariant in
-    let take-turn-told = c.take_turn-taken.ensures in
-    ends_so invariant take-turn-told c.in-End.is
+    let take_turn_told = c.take_turn-taken.ensures in
+    ends_so invariant take_turn_told c.in-End.is

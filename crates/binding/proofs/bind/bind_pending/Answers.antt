@@ -33,14 +33,14 @@ overflow_add-result c =
 pub returns-in-Done-replace_released : goal.returns-in-Done-replace_released
 unfolding further
 returns-in-Done-replace_released c =
-    let replace-released-told = c.replace_released.ensures in
-    entries-written c.requires c.args.arities.now _ c.replace_all.ensures.value c.replace_all.ensures.room_after _ c.in-Done.is (rw c.in-Done-replace_released.is at replace-released-told)
+    let replace_released_told = c.replace_released.ensures in
+    entries-written c.requires c.args.arities.now _ c.replace_all.ensures.value c.replace_all.ensures.room_after _ c.in-Done.is (rw c.in-Done-replace_released.is at replace_released_told)
 
 pub returns-in-Full-replace_released : goal.returns-in-Full-replace_released
 unfolding further
 returns-in-Full-replace_released c =
-    let replace-released-told = c.replace_released.ensures in
-    entries-written c.requires c.args.arities.now _ c.replace_all.ensures.value c.replace_all.ensures.room_after _ c.in-Done.is (rw c.in-Full-replace_released.is at replace-released-told)
+    let replace_released_told = c.replace_released.ensures in
+    entries-written c.requires c.args.arities.now _ c.replace_all.ensures.value c.replace_all.ensures.room_after _ c.in-Done.is (rw c.in-Full-replace_released.is at replace_released_told)
 
 pub returns-in-Full : goal.returns-in-Full
 returns-in-Full c =

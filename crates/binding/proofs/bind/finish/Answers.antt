@@ -14,13 +14,13 @@ overflow_add-written c =
 
 pub finish_pile-requires : goal.finish_pile-requires
 finish_pile-requires c =
-    let bind-pending-told = c.bind_pending.ensures in
-    row_next c.requires (rw c.in-Done.is at bind-pending-told)
+    let bind_pending_told = c.bind_pending.ensures in
+    row_next c.requires (rw c.in-Done.is at bind_pending_told)
 
 pub returns-in-Done : goal.returns-in-Done
 returns-in-Done c =
-    let bind-pending-told = c.bind_pending.ensures in
-    all_finished c.args.arities.now c.requires (rw c.in-Done.is at bind-pending-told) c.finish_pile.ensures
+    let bind_pending_told = c.bind_pending.ensures in
+    all_finished c.args.arities.now c.requires (rw c.in-Done.is at bind_pending_told) c.finish_pile.ensures
 
 pub returns-in-Full : goal.returns-in-Full
 unfolding of_sized

@@ -14,14 +14,14 @@ overflow_add-body c =
 
 pub seal-requires : goal.seal-requires
 seal-requires c =
-    let bind-last-told = c.bind_last.ensures in
-    seal_parts c.args.pending c.args.pile c.requires (rw c.in-Done.is at bind-last-told)
+    let bind_last_told = c.bind_last.ensures in
+    seal_parts c.args.pending c.args.pile c.requires (rw c.in-Done.is at bind_last_told)
 
 pub returns-in-Done : goal.returns-in-Done
 unfolding of_sized
 returns-in-Done c =
-    let bind-last-told = c.bind_last.ensures in
-    bindings_sealed c.args.pending c.args.pile c.requires (rw c.in-Done.is at bind-last-told) c.seal.ensures
+    let bind_last_told = c.bind_last.ensures in
+    bindings_sealed c.args.pending c.args.pile c.requires (rw c.in-Done.is at bind_last_told) c.seal.ensures
 
 pub returns-in-Full : goal.returns-in-Full
 unfolding of_sized

@@ -7,13 +7,13 @@ replace_others-requires c = others-parts c.requires
 
 pub finish_bindings-requires : goal.finish_bindings-requires
 finish_bindings-requires c =
-    let replace-others-told = c.replace_others.ensures in
-    pile_next c.args.arities.now c.requires (rw c.in-Done.is at replace-others-told)
+    let replace_others_told = c.replace_others.ensures in
+    pile_next c.args.arities.now c.requires (rw c.in-Done.is at replace_others_told)
 
 pub returns-in-Done : goal.returns-in-Done
 returns-in-Done c =
-    let replace-others-told = c.replace_others.ensures in
-    pile_finished c.args.arities.now c.requires (rw c.in-Done.is at replace-others-told) c.finish_bindings.ensures
+    let replace_others_told = c.replace_others.ensures in
+    pile_finished c.args.arities.now c.requires (rw c.in-Done.is at replace_others_told) c.finish_bindings.ensures
 
 pub returns-in-Full : goal.returns-in-Full
 unfolding of_sized

@@ -15,14 +15,14 @@ overflow_add-body c =
 
 pub seal-requires : goal.seal-requires
 seal-requires c =
-    let keep-rest-told = c.keep_rest.ensures in
-    keep_seal_parts c.requires (rw c.in-Done.is at keep-rest-told)
+    let keep_rest_told = c.keep_rest.ensures in
+    keep_seal_parts c.requires (rw c.in-Done.is at keep_rest_told)
 
 pub returns-in-Done : goal.returns-in-Done
 unfolding of_sized
 returns-in-Done c =
-    let keep-rest-told = c.keep_rest.ensures in
-    keep_sealed c.requires (rw c.in-Done.is at keep-rest-told) c.seal.ensures
+    let keep_rest_told = c.keep_rest.ensures in
+    keep_sealed c.requires (rw c.in-Done.is at keep_rest_told) c.seal.ensures
 
 pub returns-in-Full : goal.returns-in-Full
 unfolding of_sized

@@ -21,5 +21,5 @@ pub returns : goal.returns
 returns c =
     let if1 = c.if-capacity-n.false in
     let copy_told = c.copy.ensures in
-    let copy2-told = c.copy-2.ensures in
-    kept-written c.requires if1 copy_told copy2-told c.copy-3.ensures
+    let copy2_told = c.copy-2.ensures in
+    kept-written c.requires if1 copy_told copy2_told c.copy-3.ensures

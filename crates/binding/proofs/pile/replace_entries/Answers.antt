@@ -81,8 +81,8 @@ pub replace-requires : goal.replace-requires
 unfolding seg
 replace-requires c =
     let invariant = c.loop-read.invariant in
-    let loop-test = c.loop-read-test.true in
-    entry-parts invariant.0 loop-test invariant.1 _ c.end_of_term-size.ensures
+    let loop_test = c.loop-read-test.true in
+    entry-parts invariant.0 loop_test invariant.1 _ c.end_of_term-size.ensures
 
 pub overflow_add-read : goal.overflow_add-read
 unfolding seg
@@ -137,8 +137,8 @@ pub loop-read-preserved : goal.loop-read-preserved
 unfolding seg
 loop-read-preserved c =
     let invariant = c.loop-read.invariant in
-    let loop-test = c.loop-read-test.true in
-    (entry_skipped invariant.0 loop-test invariant.1 _ c.end_of_term-size.ensures (sym c.wanted.ensures ∙ c.if-wanted.false), invariant.1)
+    let loop_test = c.loop-read-test.true in
+    (entry_skipped invariant.0 loop_test invariant.1 _ c.end_of_term-size.ensures (sym c.wanted.ensures ∙ c.if-wanted.false), invariant.1)
 
 pub shape_of-room : goal.shape_of-room
 shape_of-room c = long c.loop-read.invariant.0

@@ -14,6 +14,6 @@ copy-requires c = whole_parts c.requires.0 c.if-capacity-n.false
 
 pub returns-in-Others : goal.returns-in-Others
 returns-in-Others c =
-    let is-in-told = c.is_in.ensures in
+    let is_in_told = c.is_in.ensures in
     let if1 = c.if-not-is_in.true-raw in
-    rw c.in-Others.is (absent_others _ c.requires.0 _ is-in-told if1 c.if-capacity-n.false c.copy.ensures)
+    rw c.in-Others.is (absent_others _ c.requires.0 _ is_in_told if1 c.if-capacity-n.false c.copy.ensures)

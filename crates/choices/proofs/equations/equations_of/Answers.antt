@@ -34,10 +34,10 @@ pair-requires c = pair_parts c.loop-i.invariant c.loop-i-test.true _ c.wide-pick
 pub overflow_add-written : goal.overflow_add-written
 overflow_add-written c =
     let invariant = c.loop-i.invariant in
-    let loop-test = c.loop-i-test.true in
-    let wide-told = c.wide-pick.ensures in
+    let loop_test = c.loop-i-test.true in
+    let wide_told = c.wide-pick.ensures in
     let if1 = c.if-pick-count.true in
-    let N = numbers (pair-met invariant loop-test _ wide-told if1 c.pair.ensures _ c.in-Done.is) in
+    let N = numbers (pair-met invariant loop_test _ wide_told if1 c.pair.ensures _ c.in-Done.is) in
     omega arith
 
 pub overflow_add-i : goal.overflow_add-i
@@ -49,10 +49,10 @@ loop-i-smaller-in-Done c = let N = numbers c.loop-i.invariant in omega arith
 pub loop-i-preserved-in-Done : goal.loop-i-preserved-in-Done
 loop-i-preserved-in-Done c =
     let invariant = c.loop-i.invariant in
-    let loop-test = c.loop-i-test.true in
-    let wide-told = c.wide-pick.ensures in
+    let loop_test = c.loop-i-test.true in
+    let wide_told = c.wide-pick.ensures in
     let if1 = c.if-pick-count.true in
-    pair-met invariant loop-test _ wide-told if1 c.pair.ensures _ c.in-Done.is
+    pair-met invariant loop_test _ wide_told if1 c.pair.ensures _ c.in-Done.is
 
 pub shape_of-room-in-Full : goal.shape_of-room-in-Full
 shape_of-room-in-Full c = wrote_length c.pair.ensures ∙ (numbers c.loop-i.invariant).long
@@ -60,10 +60,10 @@ shape_of-room-in-Full c = wrote_length c.pair.ensures ∙ (numbers c.loop-i.inva
 pub returns-in-Full : goal.returns-in-Full
 returns-in-Full c =
     let invariant = c.loop-i.invariant in
-    let loop-test = c.loop-i-test.true in
-    let wide-told = c.wide-pick.ensures in
+    let loop_test = c.loop-i-test.true in
+    let wide_told = c.wide-pick.ensures in
     let if1 = c.if-pick-count.true in
-    pair_full invariant loop-test _ wide-told if1 c.pair.ensures c.in-Full.is
+    pair_full invariant loop_test _ wide_told if1 c.pair.ensures c.in-Full.is
 
 pub overflow_add-i-else-pick-count : goal.overflow_add-i-else-pick-count
 overflow_add-i-else-pick-count c = let N = numbers c.loop-i.invariant in omega arith

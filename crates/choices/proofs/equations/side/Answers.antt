@@ -6,5 +6,5 @@ replace-requires c = side-parts c.requires c.wide-p.ensures c.wide-q.ensures
 
 pub returns : goal.returns
 returns c =
-    let wide-told = c.wide-p.ensures in
-    side-written c.requires wide-told c.wide-q.ensures _ c.replace.ensures.value c.replace.ensures.room_after
+    let wide_told = c.wide-p.ensures in
+    side-written c.requires wide_told c.wide-q.ensures _ c.replace.ensures.value c.replace.ensures.room_after

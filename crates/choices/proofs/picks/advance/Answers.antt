@@ -11,5 +11,5 @@ advance_of-requires-2 c =
 
 pub returns : goal.returns
 returns c =
-    let advance-of-told = c.advance_of.ensures in
-    advanced_first c.requires.0 c.requires.1 (rw c.if-advance_of.false at advance-of-told) c.advance_of-2.ensures
+    let advance_of_told = c.advance_of.ensures in
+    advanced_first c.requires.0 c.requires.1 (rw c.if-advance_of.false at advance_of_told) c.advance_of-2.ensures

@@ -9,9 +9,9 @@ use Rattle.noted_sides.specs.NotedSides.{numbers_of}
 use borrow.Author.Rules.{Below-set}
 use Rattle.noted_sides.proofs.shown.show_sides.Goals as goal
 
-three-put : (l : List ℕ) (i a b c : ℕ) → set (set (set l i a) (i + 1) b) (i + 2) c ≡ put l i (a ∷ b ∷ c ∷ [])
+three_put : (l : List ℕ) (i a b c : ℕ) → set (set (set l i a) (i + 1) b) (i + 2) c ≡ put l i (a ∷ b ∷ c ∷ [])
 unfolding put
-three-put l i a b c =
+three_put l i a b c =
     let e : suc i ≡ i + 1 = omega arith in
     let f : suc (suc i) ≡ i + 2 = omega arith in
     rw (f, e)
@@ -27,4 +27,4 @@ bounds-room-to-3 c =
 
 pub returns : goal.returns
 unfolding numbers_of
-returns c = three-put _ _ _ _ _
+returns c = three_put _ _ _ _ _

@@ -28,5 +28,5 @@ pub returns : goal.returns
 returns c =
     let if1 = c.if-number-gt0.false in
     let if2 = c.if-most-eq0.false in
-    let subject-of-told = c.subject_of-subject.ensures in
-    λ st e es S. step_told S (omega (arith, if1)) (omega (arith, if2)) subject-of-told c.take_step.ensures c.told_of.ensures
+    let subject_of_told = c.subject_of-subject.ensures in
+    λ st e es S. step_told S (omega (arith, if1)) (omega (arith, if2)) subject_of_told c.take_step.ensures c.told_of.ensures

@@ -14,41 +14,41 @@ show_sides-requires c = let S = c.requires.here in number-parts S (c.open_sides-
 
 pub picks_of_t-first-requires : goal.picks_of_t-first-requires
 picks_of_t-first-requires c =
-    let open-sides-told = c.open_sides-sides.ensures in
+    let open_sides_told = c.open_sides-sides.ensures in
     let S = c.requires.here in
-    let few = members_few S (open-sides-told.opened _ _ _ (open_there S)) in
+    let few = members_few S (open_sides_told.opened _ _ _ (open_there S)) in
     omega (arith, S.ready.lent_small)
 
 pub picks_of_u-second-requires : goal.picks_of_u-second-requires
 picks_of_u-second-requires c =
-    let open-sides-told = c.open_sides-sides.ensures in
+    let open_sides_told = c.open_sides-sides.ensures in
     let S = c.requires.here in
-    let few = members_few S (open-sides-told.opened _ _ _ (open_there S)) in
+    let few = members_few S (open_sides_told.opened _ _ _ (open_there S)) in
     omega (arith, S.ready.lent_small)
 
 pub digits-left-requires : goal.digits-left-requires
 digits-left-requires c =
-    let open-sides-told = c.open_sides-sides.ensures in
-    let show-sides-told = c.show_sides.ensures in
+    let open_sides_told = c.open_sides-sides.ensures in
+    let show_sides_told = c.show_sides.ensures in
     let S = c.requires.here in
-    digit-parts S (open-sides-told.opened _ _ _ (open_there S)) show-sides-told c.picks_of_t-first.ensures c.picks_of_u-second.ensures
+    digit-parts S (open_sides_told.opened _ _ _ (open_there S)) show_sides_told c.picks_of_t-first.ensures c.picks_of_u-second.ensures
 
 pub returns-then-left-ne0 : goal.returns-then-left-ne0
 returns-then-left-ne0 c =
-    let open-sides-told = c.open_sides-sides.ensures in
-    let show-sides-told = c.show_sides.ensures in
-    let picks-of-t-told = c.picks_of_t-first.ensures in
-    let picks-of-u-told = c.picks_of_u-second.ensures in
-    λ st e es S. told_past S (open-sides-told.opened _ _ _ (open_there S)) show-sides-told picks-of-t-told picks-of-u-told c.digits-left.ensures c.if-left-ne0.true
+    let open_sides_told = c.open_sides-sides.ensures in
+    let show_sides_told = c.show_sides.ensures in
+    let picks_of_t_told = c.picks_of_t-first.ensures in
+    let picks_of_u_told = c.picks_of_u-second.ensures in
+    λ st e es S. told_past S (open_sides_told.opened _ _ _ (open_there S)) show_sides_told picks_of_t_told picks_of_u_told c.digits-left.ensures c.if-left-ne0.true
 
 pub pick_from-requires : goal.pick_from-requires
 pick_from-requires c =
-    let open-sides-told = c.open_sides-sides.ensures in
-    let show-sides-told = c.show_sides.ensures in
-    let picks-of-t-told = c.picks_of_t-first.ensures in
-    let picks-of-u-told = c.picks_of_u-second.ensures in
+    let open_sides_told = c.open_sides-sides.ensures in
+    let show_sides_told = c.show_sides.ensures in
+    let picks_of_t_told = c.picks_of_t-first.ensures in
+    let picks_of_u_told = c.picks_of_u-second.ensures in
     let S = c.requires.here in
-    record { p = _; here = here S (open-sides-told.opened _ _ _ (open_there S)) show-sides-told picks-of-t-told picks-of-u-told c.digits-left.ensures }
+    record { p = _; here = here S (open_sides_told.opened _ _ _ (open_there S)) show_sides_told picks_of_t_told picks_of_u_told c.digits-left.ensures }
 
 pub returns : goal.returns
 returns c = λ st e es S.

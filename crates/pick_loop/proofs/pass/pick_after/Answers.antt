@@ -38,13 +38,13 @@ loop-k-init c = λ l p P. P
 
 pub split-made-requires : goal.split-made-requires
 split-made-requires c =
-    let advance-told = c.advance.ensures in
-    child-parts (c.loop-k.invariant _ _ (first_passed c.requires.here advance-told (c.if-not-advance.false))) c.loop-k-test.true
+    let advance_told = c.advance.ensures in
+    child-parts (c.loop-k.invariant _ _ (first_passed c.requires.here advance_told (c.if-not-advance.false))) c.loop-k-test.true
 
 pub overflow_add-k : goal.overflow_add-k
 overflow_add-k c =
-    let loop-test = c.loop-k-test.true in
-    let t = loop-test in
+    let loop_test = c.loop-k-test.true in
+    let t = loop_test in
     let m = c.requires.here.here.most_small in
     omega arith
 
@@ -79,11 +79,11 @@ loop-k-preserved c = λ l p Q.
 pub returns-in-Names : goal.returns-in-Names
 unfolding of_reached
 returns-in-Names c =
-    let advance-told = c.advance.ensures in
+    let advance_told = c.advance.ensures in
     let if1 = c.if-not-advance.false-raw in
     let invariant = c.loop-k.invariant in
-    let loop-test = c.loop-k-test.true in
-    λ p E. told_node (invariant _ p (first_passed E advance-told (not-false _ if1))) loop-test c.split-made.ensures reached.Names c.in-Names.is
+    let loop_test = c.loop-k-test.true in
+    λ p E. told_node (invariant _ p (first_passed E advance_told (not-false _ if1))) loop_test c.split-made.ensures reached.Names c.in-Names.is
 
 pub shape_of-room-in-Names : goal.shape_of-room-in-Names
 shape_of-room-in-Names c =
@@ -92,11 +92,11 @@ shape_of-room-in-Names c =
 pub returns-in-Large : goal.returns-in-Large
 unfolding of_reached
 returns-in-Large c =
-    let advance-told = c.advance.ensures in
+    let advance_told = c.advance.ensures in
     let if1 = c.if-not-advance.false-raw in
     let invariant = c.loop-k.invariant in
-    let loop-test = c.loop-k-test.true in
-    λ p E. told_node (invariant _ p (first_passed E advance-told (not-false _ if1))) loop-test c.split-made.ensures reached.Large c.in-Large.is
+    let loop_test = c.loop-k-test.true in
+    λ p E. told_node (invariant _ p (first_passed E advance_told (not-false _ if1))) loop_test c.split-made.ensures reached.Large c.in-Large.is
 
 pub shape_of-room-in-Large : goal.shape_of-room-in-Large
 shape_of-room-in-Large c =
@@ -105,11 +105,11 @@ shape_of-room-in-Large c =
 pub returns-in-Live : goal.returns-in-Live
 unfolding of_reached
 returns-in-Live c =
-    let advance-told = c.advance.ensures in
+    let advance_told = c.advance.ensures in
     let if1 = c.if-not-advance.false-raw in
     let invariant = c.loop-k.invariant in
-    let loop-test = c.loop-k-test.true in
-    λ p E. told_node (invariant _ p (first_passed E advance-told (not-false _ if1))) loop-test c.split-made.ensures reached.Live c.in-Live.is
+    let loop_test = c.loop-k-test.true in
+    λ p E. told_node (invariant _ p (first_passed E advance_told (not-false _ if1))) loop_test c.split-made.ensures reached.Live c.in-Live.is
 
 pub shape_of-room-in-Live : goal.shape_of-room-in-Live
 shape_of-room-in-Live c =

@@ -51,27 +51,27 @@ decompose-requires c = decompose_arm_parts c.requires.here (ap of_plain c.in-Dec
 pub returns-in-Drop : goal.returns-in-Drop
 unfolding of_plain
 returns-in-Drop c =
-    let keep-told = c.keep.ensures in
-    rw c.of_sized.ensures (record { taken = λ st e es node S o. drop_arm S (ap of_plain c.in-Drop.is) keep-told o; beside = λ st e es S. finished_beside keep-told })
+    let keep_told = c.keep.ensures in
+    rw c.of_sized.ensures (record { taken = λ st e es node S o. drop_arm S (ap of_plain c.in-Drop.is) keep_told o; beside = λ st e es S. finished_beside keep_told })
 
 pub returns-in-Bind : goal.returns-in-Bind
 unfolding of_plain
 returns-in-Bind c =
-    let finish-told = c.finish.ensures in
-    rw c.of_sized-in-Bind.ensures (record { taken = λ st e es node S o. bind_arm S (ap of_plain c.in-Bind.is) finish-told o; beside = λ st e es S. finished_beside finish-told })
+    let finish_told = c.finish.ensures in
+    rw c.of_sized-in-Bind.ensures (record { taken = λ st e es node S o. bind_arm S (ap of_plain c.in-Bind.is) finish_told o; beside = λ st e es S. finished_beside finish_told })
 
 pub returns-in-Postpone : goal.returns-in-Postpone
 unfolding of_plain
 returns-in-Postpone c =
-    let postpone-told = c.postpone.ensures in
-    rw c.of_sized-in-Postpone.ensures (record { taken = λ st e es node S o. postpone_arm S (ap of_plain c.in-Postpone.is) postpone-told o; beside = λ st e es S. postpone_beside _ (omega (arith, S.held.rows.next_row)) postpone-told })
+    let postpone_told = c.postpone.ensures in
+    rw c.of_sized-in-Postpone.ensures (record { taken = λ st e es node S o. postpone_arm S (ap of_plain c.in-Postpone.is) postpone_told o; beside = λ st e es S. postpone_beside _ (omega (arith, S.held.rows.next_row)) postpone_told })
 
 pub returns-in-Decompose : goal.returns-in-Decompose
 unfolding of_plain
 returns-in-Decompose c =
-    let terms-after-told = c.terms_after-k.ensures in
-    let decompose-told = c.decompose.ensures in
-    rw c.of_sized-in-Decompose.ensures (record { taken = λ st e es node S o. decompose_arm S (ap of_plain c.in-Decompose.is) terms-after-told.0 decompose-told o; beside = λ st e es S. decompose_beside _ _ (decompose_arm_parts S (ap of_plain c.in-Decompose.is)) decompose-told })
+    let terms_after_told = c.terms_after-k.ensures in
+    let decompose_told = c.decompose.ensures in
+    rw c.of_sized-in-Decompose.ensures (record { taken = λ st e es node S o. decompose_arm S (ap of_plain c.in-Decompose.is) terms_after_told.0 decompose_told o; beside = λ st e es S. decompose_beside _ _ (decompose_arm_parts S (ap of_plain c.in-Decompose.is)) decompose_told })
 
 pub returns-in-Dead : goal.returns-in-Dead
 unfolding of_plain

@@ -69,9 +69,9 @@ loop-i-smaller c = omega arith
 pub loop-i-preserved : goal.loop-i-preserved
 loop-i-preserved c =
     let invariant = c.loop-i.invariant in
-    let loop-test = c.loop-i-test.true in
-    let pair-first-told = c.pair_first-two.ensures in
-    paired-more invariant loop-test pair-first-told.0 pair-first-told.1 pair-first-told.2
+    let loop_test = c.loop-i-test.true in
+    let pair_first_told = c.pair_first-two.ensures in
+    paired-more invariant loop_test pair_first_told.0 pair_first_told.1 pair_first_told.2
 
 pub overflow_add-result : goal.overflow_add-result
 overflow_add-result c =

@@ -13,13 +13,13 @@ overflow_add-to c =
 
 pub copy-requires-2 : goal.copy-requires-2
 copy-requires-2 c =
-    let end-of-term-told = c.end_of_term-e.ensures in
-    let end-of-term2-told = c.end_of_term-g.ensures in
-    right_copy c.args.arities.now c.requires (lent-within c.args.arities.now c.requires _ _ c.requires.left_within end-of-term-told) (lent-within c.args.arities.now c.requires _ _ c.requires.right_within end-of-term2-told) c.copy.ensures
+    let end_of_term_told = c.end_of_term-e.ensures in
+    let end_of_term2_told = c.end_of_term-g.ensures in
+    right_copy c.args.arities.now c.requires (lent-within c.args.arities.now c.requires _ _ c.requires.left_within end_of_term_told) (lent-within c.args.arities.now c.requires _ _ c.requires.right_within end_of_term2_told) c.copy.ensures
 
 pub returns : goal.returns
 returns c =
-    let end-of-term-told = c.end_of_term-e.ensures in
-    let end-of-term2-told = c.end_of_term-g.ensures in
+    let end_of_term_told = c.end_of_term-e.ensures in
+    let end_of_term2_told = c.end_of_term-g.ensures in
     let copy_told = c.copy.ensures in
-    (lent c.args.arities.now c.requires _ _ end-of-term-told, lent c.args.arities.now c.requires _ _ end-of-term2-told, both_copied c.args.arities.now c.requires (lent-within c.args.arities.now c.requires _ _ c.requires.left_within end-of-term-told) (lent-within c.args.arities.now c.requires _ _ c.requires.right_within end-of-term2-told) copy_told c.copy-2.ensures)
+    (lent c.args.arities.now c.requires _ _ end_of_term_told, lent c.args.arities.now c.requires _ _ end_of_term2_told, both_copied c.args.arities.now c.requires (lent-within c.args.arities.now c.requires _ _ c.requires.left_within end_of_term_told) (lent-within c.args.arities.now c.requires _ _ c.requires.right_within end_of_term2_told) copy_told c.copy-2.ensures)

@@ -112,9 +112,9 @@ pub copy-requires : goal.copy-requires
 unfolding seg
 copy-requires c =
     let invariant = c.loop-read.invariant in
-    let loop-test = c.loop-read-test.true in
-    let end-of-term-told = c.end_of_term-size.ensures in
-    members-parts invariant.0 loop-test invariant.1 _ end-of-term-told _ c.place_of_kernel-k.ensures
+    let loop_test = c.loop-read-test.true in
+    let end_of_term_told = c.end_of_term-size.ensures in
+    members-parts invariant.0 loop_test invariant.1 _ end_of_term_told _ c.place_of_kernel-k.ensures
 
 pub overflow_add-read : goal.overflow_add-read
 unfolding seg
@@ -142,10 +142,10 @@ pub loop-read-preserved-then-room-at : goal.loop-read-preserved-then-room-at
 unfolding seg
 loop-read-preserved-then-room-at c =
     let invariant = c.loop-read.invariant in
-    let loop-test = c.loop-read-test.true in
-    let end-of-term-told = c.end_of_term-size.ensures in
+    let loop_test = c.loop-read-test.true in
+    let end_of_term_told = c.end_of_term-size.ensures in
     let if1 = c.if-room-at.true in
-    (entry-gathered invariant.0 loop-test invariant.1 _ end-of-term-told _ c.place_of_kernel-k.ensures if1 c.copy.ensures, invariant.1)
+    (entry-gathered invariant.0 loop_test invariant.1 _ end_of_term_told _ c.place_of_kernel-k.ensures if1 c.copy.ensures, invariant.1)
 
 pub overflow_add-read-else-room-at : goal.overflow_add-read-else-room-at
 unfolding seg

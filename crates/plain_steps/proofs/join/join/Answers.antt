@@ -51,13 +51,13 @@ finish_pile-requires c =
 
 pub shape_of-room : goal.shape_of-room
 shape_of-room c =
-    let unknown-word-told = c.unknown_word.ensures in
-    finished_length (rw unknown-word-told at c.finish_pile.ensures) ∙ value_long c.args.arities.now c.requires c.gather-m.ensures.value c.gather-m.ensures.room_after
+    let unknown_word_told = c.unknown_word.ensures in
+    finished_length (rw unknown_word_told at c.finish_pile.ensures) ∙ value_long c.args.arities.now c.requires c.gather-m.ensures.value c.gather-m.ensures.room_after
 
 pub returns : goal.returns
 returns c =
-    let is-in-told = c.is_in.ensures in
+    let is_in_told = c.is_in.ensures in
     let if1 = c.if-is_in.false in
     let if2 = c.if-next-ge-PATH_UNKNOWNS.false in
-    let unknown-word-told = c.unknown_word.ensures in
-    rw c.of_sized.ensures (joined_live c.args.arities.now c.requires c.gather-m.ensures.value c.gather-m.ensures.room_after is-in-told if1 if2 (rw unknown-word-told at c.finish_pile.ensures))
+    let unknown_word_told = c.unknown_word.ensures in
+    rw c.of_sized.ensures (joined_live c.args.arities.now c.requires c.gather-m.ensures.value c.gather-m.ensures.room_after is_in_told if1 if2 (rw unknown_word_told at c.finish_pile.ensures))

@@ -7,8 +7,8 @@ returns-then-first-word_at c = compared_apart _ _ _ (λ e. c.if-first-word_at.tr
 
 pub returns-then-first-eq-EMPTY : goal.returns-then-first-eq-EMPTY
 returns-then-first-eq-EMPTY c =
-    let word-at-told = c.word_at-first.ensures in
-    compared_empty _ _ _ (sym word-at-told ∙ c.if-first-word_at.false ∙ c.word_at.ensures) (sym word-at-told ∙ c.if-first-eq-EMPTY.true)
+    let word_at_told = c.word_at-first.ensures in
+    compared_empty _ _ _ (sym word_at_told ∙ c.if-first-word_at.false ∙ c.word_at.ensures) (sym word_at_told ∙ c.if-first-eq-EMPTY.true)
 
 pub returns-then-first-eq-MEMBER : goal.returns-then-first-eq-MEMBER
 returns-then-first-eq-MEMBER c =

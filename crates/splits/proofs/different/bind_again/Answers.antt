@@ -14,6 +14,6 @@ finish-requires c = again-parts c.requires.again c.read_header-header.ensures c.
 pub returns : goal.returns
 unfolding seg
 returns c =
-    let read-header-told = c.read_header-header.ensures in
-    let finish-told = c.finish.ensures in
-    record { makes = λ st name value A. again-made A read-header-told c.rest_of-rest.ensures finish-told; kept = λ from scratch T. finished_elsewhere T finish-told }
+    let read_header_told = c.read_header-header.ensures in
+    let finish_told = c.finish.ensures in
+    record { makes = λ st name value A. again-made A read_header_told c.rest_of-rest.ensures finish_told; kept = λ from scratch T. finished_elsewhere T finish_told }

@@ -15,12 +15,12 @@ bind_again-requires c =
 pub returns-in-Live : goal.returns-in-Live
 unfolding of_sized
 returns-in-Live c =
-    let bound-told = c.bound.ensures in
-    let bind-again-told = c.bind_again.ensures in
-    record { makes = λ p s r D. twice-made D bound-told (ap of_sized c.in-Live.is) bind-again-told; kept = twice-kept c.requires.parts bound-told bind-again-told }
+    let bound_told = c.bound.ensures in
+    let bind_again_told = c.bind_again.ensures in
+    record { makes = λ p s r D. twice-made D bound_told (ap of_sized c.in-Live.is) bind_again_told; kept = twice-kept c.requires.parts bound_told bind_again_told }
 
 pub returns-in-Large : goal.returns-in-Large
 unfolding of_sized
 returns-in-Large c =
-    let bound-told = c.bound.ensures in
-    record { makes = λ p s r D. twice_large D bound-told (not_large (ap of_sized c.in-Large.is)); kept = bound-told.kept }
+    let bound_told = c.bound.ensures in
+    record { makes = λ p s r D. twice_large D bound_told (not_large (ap of_sized c.in-Large.is)); kept = bound_told.kept }

@@ -9,8 +9,8 @@ returns-then-is_in-2 c = let e = sym c.is_in.ensures ∙ c.if-is_in.false in let
 
 pub returns-then-is_in-3 : goal.returns-then-is_in-3
 returns-then-is_in-3 c =
-    let is-in-told = c.is_in.ensures in
-    let e = sym is-in-told ∙ c.if-is_in.false in
+    let is_in_told = c.is_in.ensures in
+    let e = sym is_in_told ∙ c.if-is_in.false in
     let f = sym c.is_in-2.ensures ∙ c.if-is_in-2.false in
     let g = sym c.is_in-3.ensures ∙ c.if-is_in-3.true in
     rw (e, f, g) c.is_in-then-is_in-3.ensures

@@ -38,41 +38,41 @@ overflow_add-t c =
 
 pub slice_bounds-crosses-end : goal.slice_bounds-crosses-end
 slice_bounds-crosses-end c =
-    let lay-joined-told = c.lay_joined-joined.ensures in
+    let lay_joined_told = c.lay_joined-joined.ensures in
     let N = numbers c.requires.due.opened in
-    let J = joined-within c.requires.due c.requires.kind lay-joined-told in
+    let J = joined-within c.requires.due c.requires.kind lay_joined_told in
     omega (arith, J.0, J.1, J.2)
 
 pub slice_bounds-crosses-end-2 : goal.slice_bounds-crosses-end-2
 slice_bounds-crosses-end-2 c =
-    let lay-joined-told = c.lay_joined-joined.ensures in
+    let lay_joined_told = c.lay_joined-joined.ensures in
     let N = numbers c.requires.due.opened in
-    let J = joined-within c.requires.due c.requires.kind lay-joined-told in
+    let J = joined-within c.requires.due c.requires.kind lay_joined_told in
     omega (arith, J.0, J.1, J.2)
 
 pub returns-then-crosses : goal.returns-then-crosses
 unfolding seg
 returns-then-crosses c =
-    let lay-joined-told = c.lay_joined-joined.ensures in
-    record { makes = λ p D k. different_dead D k lay-joined-told refl refl c.crosses.ensures c.if-crosses.true; kept = λ p D k. joined_elsewhere D k lay-joined-told }
+    let lay_joined_told = c.lay_joined-joined.ensures in
+    record { makes = λ p D k. different_dead D k lay_joined_told refl refl c.crosses.ensures c.if-crosses.true; kept = λ p D k. joined_elsewhere D k lay_joined_told }
 
 pub returns-then-next-ge-PATH_UNKNOWNS : goal.returns-then-next-ge-PATH_UNKNOWNS
 unfolding seg
 returns-then-next-ge-PATH_UNKNOWNS c =
-    let lay-joined-told = c.lay_joined-joined.ensures in
-    record { makes = λ p D k. different_names D k lay-joined-told refl refl c.crosses.ensures c.if-crosses.false c.if-next-ge-PATH_UNKNOWNS.true; kept = λ p D k. joined_elsewhere D k lay-joined-told }
+    let lay_joined_told = c.lay_joined-joined.ensures in
+    record { makes = λ p D k. different_names D k lay_joined_told refl refl c.crosses.ensures c.if-crosses.false c.if-next-ge-PATH_UNKNOWNS.true; kept = λ p D k. joined_elsewhere D k lay_joined_told }
 
 pub renew-requires : goal.renew-requires
 unfolding seg
 renew-requires c =
-    let lay-joined-told = c.lay_joined-joined.ensures in
-    different_parts c.requires.due c.requires.kind lay-joined-told refl refl c.crosses.ensures c.if-crosses.false c.if-next-ge-PATH_UNKNOWNS.false
+    let lay_joined_told = c.lay_joined-joined.ensures in
+    different_parts c.requires.due c.requires.kind lay_joined_told refl refl c.crosses.ensures c.if-crosses.false c.if-next-ge-PATH_UNKNOWNS.false
 
 pub returns : goal.returns
 unfolding seg
 returns c =
-    let lay-joined-told = c.lay_joined-joined.ensures in
-    let crosses-told = c.crosses.ensures in
+    let lay_joined_told = c.lay_joined-joined.ensures in
+    let crosses_told = c.crosses.ensures in
     let if1 = c.if-crosses.false in
-    let renew-told = c.renew.ensures in
-    rw c.of_sized.ensures (record { makes = λ p D k. different_made D k lay-joined-told refl refl crosses-told if1 c.if-next-ge-PATH_UNKNOWNS.false renew-told; kept = λ p D k. elsewhere_next (joined_elsewhere D k lay-joined-told) renew-told.kept })
+    let renew_told = c.renew.ensures in
+    rw c.of_sized.ensures (record { makes = λ p D k. different_made D k lay_joined_told refl refl crosses_told if1 c.if-next-ge-PATH_UNKNOWNS.false renew_told; kept = λ p D k. elsewhere_next (joined_elsewhere D k lay_joined_told) renew_told.kept })

@@ -19,23 +19,23 @@ bounds-room-by c = let h = s-place (due-laid c.requires.due c.lay_entry-l.ensure
 
 pub equations-requires : goal.equations-requires
 equations-requires c =
-    let lay-entry-told = c.lay_entry-l.ensures in
-    plain-parts (due-laid c.requires.due lay-entry-told) _ (s-place (due-laid c.requires.due lay-entry-told)) (s_apart (due-laid c.requires.due lay-entry-told) 1 (omega arith))
+    let lay_entry_told = c.lay_entry-l.ensures in
+    plain-parts (due-laid c.requires.due lay_entry_told) _ (s-place (due-laid c.requires.due lay_entry_told)) (s_apart (due-laid c.requires.due lay_entry_told) 1 (omega arith))
 
 pub keep-requires : goal.keep-requires
 keep-requires c =
-    let lay-entry-told = c.lay_entry-l.ensures in
-    let equations-told = c.equations.ensures in
-    keep-parts (due-laid c.requires.due lay-entry-told) (news c.requires.p) (plain (due-laid c.requires.due lay-entry-told) _ (s-place (due-laid c.requires.due lay-entry-told)) (s_apart (due-laid c.requires.due lay-entry-told) 1 (omega arith)) refl (rw c.in-Done.is at equations-told)) (entry-within c.requires.due lay-entry-told) (entry_apart c.requires.due lay-entry-told)
+    let lay_entry_told = c.lay_entry-l.ensures in
+    let equations_told = c.equations.ensures in
+    keep-parts (due-laid c.requires.due lay_entry_told) (news c.requires.p) (plain (due-laid c.requires.due lay_entry_told) _ (s-place (due-laid c.requires.due lay_entry_told)) (s_apart (due-laid c.requires.due lay_entry_told) 1 (omega arith)) refl (rw c.in-Done.is at equations_told)) (entry-within c.requires.due lay_entry_told) (entry_apart c.requires.due lay_entry_told)
 
 pub returns-in-Done : goal.returns-in-Done
 returns-in-Done c =
-    let lay-entry-told = c.lay_entry-l.ensures in
-    let equations-told = c.equations.ensures in
-    child-made (λ p D k. same_made D lay-entry-told k (plain (due-laid D lay-entry-told) _ (s-place (due-laid D lay-entry-told)) (s_apart (due-laid D lay-entry-told) 1 (omega arith)) refl (rw c.in-Done.is at equations-told)) c.keep.ensures)
+    let lay_entry_told = c.lay_entry-l.ensures in
+    let equations_told = c.equations.ensures in
+    child-made (λ p D k. same_made D lay_entry_told k (plain (due-laid D lay_entry_told) _ (s-place (due-laid D lay_entry_told)) (s_apart (due-laid D lay_entry_told) 1 (omega arith)) refl (rw c.in-Done.is at equations_told)) c.keep.ensures)
 
 pub returns-in-Full : goal.returns-in-Full
 unfolding of_sized
 returns-in-Full c =
-    let lay-entry-told = c.lay_entry-l.ensures in
-    child-made (λ p D k. same_full D lay-entry-told k (plain (due-laid D lay-entry-told) _ (s-place (due-laid D lay-entry-told)) (s_apart (due-laid D lay-entry-told) 1 (omega arith)) refl (rw c.in-Full.is at c.equations.ensures)))
+    let lay_entry_told = c.lay_entry-l.ensures in
+    child-made (λ p D k. same_full D lay_entry_told k (plain (due-laid D lay_entry_told) _ (s-place (due-laid D lay_entry_told)) (s_apart (due-laid D lay_entry_told) 1 (omega arith)) refl (rw c.in-Full.is at c.equations.ensures)))

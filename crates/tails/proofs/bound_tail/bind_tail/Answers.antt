@@ -10,6 +10,6 @@ returns-then-is_in c = record { makes = λ p name value B. tail_dead B c.is_in.e
 pub returns : goal.returns
 unfolding seg
 returns c =
-    let is-in-told = c.is_in.ensures in
-    let bound-told = c.bound.ensures in
-    rw c.of_sized.ensures (record { makes = λ p name value B. tail_bound B is-in-told c.if-is_in.false bound-told; kept = bound-told.kept })
+    let is_in_told = c.is_in.ensures in
+    let bound_told = c.bound.ensures in
+    rw c.of_sized.ensures (record { makes = λ p name value B. tail_bound B is_in_told c.if-is_in.false bound_told; kept = bound_told.kept })

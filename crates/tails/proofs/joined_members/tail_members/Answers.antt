@@ -47,49 +47,49 @@ bounds-room-places-else-wide-others c = let N = numbers c.loop-i.invariant in om
 pub overflow_add-body : goal.overflow_add-body
 overflow_add-body c =
     let invariant = c.loop-i.invariant in
-    let loop-test = c.loop-i-test.true in
+    let loop_test = c.loop-i-test.true in
     let N = numbers invariant in
-    let R = rising invariant loop-test _ _ c.wide-p.ensures c.wide-q.ensures in
+    let R = rising invariant loop_test _ _ c.wide-p.ensures c.wide-q.ensures in
     omega arith
 
 pub overflow_sub-q : goal.overflow_sub-q
 overflow_sub-q c =
     let invariant = c.loop-i.invariant in
-    let loop-test = c.loop-i-test.true in
+    let loop_test = c.loop-i-test.true in
     let N = numbers invariant in
-    let R = rising invariant loop-test _ _ c.wide-p.ensures c.wide-q.ensures in
+    let R = rising invariant loop_test _ _ c.wide-p.ensures c.wide-q.ensures in
     omega arith
 
 pub overflow_add-to : goal.overflow_add-to
 overflow_add-to c =
     let invariant = c.loop-i.invariant in
-    let loop-test = c.loop-i-test.true in
+    let loop_test = c.loop-i-test.true in
     let N = numbers invariant in
-    let R = rising invariant loop-test _ _ c.wide-p.ensures c.wide-q.ensures in
+    let R = rising invariant loop_test _ _ c.wide-p.ensures c.wide-q.ensures in
     omega arith
 
 pub copy-requires : goal.copy-requires
 copy-requires c =
     let invariant = c.loop-i.invariant in
-    let loop-test = c.loop-i-test.true in
-    copy_parts invariant loop-test _ _ c.wide-p.ensures c.wide-q.ensures
+    let loop_test = c.loop-i-test.true in
+    copy_parts invariant loop_test _ _ c.wide-p.ensures c.wide-q.ensures
 
 pub overflow_sub-written : goal.overflow_sub-written
 overflow_sub-written c =
     let invariant = c.loop-i.invariant in
-    let loop-test = c.loop-i-test.true in
-    let wide2-told = c.wide-p.ensures in
+    let loop_test = c.loop-i-test.true in
+    let wide2_told = c.wide-p.ensures in
     let N = numbers invariant in
-    let R = rising invariant loop-test _ _ wide2-told c.wide-q.ensures in
+    let R = rising invariant loop_test _ _ wide2_told c.wide-q.ensures in
     omega arith
 
 pub overflow_add-written : goal.overflow_add-written
 overflow_add-written c =
     let invariant = c.loop-i.invariant in
-    let loop-test = c.loop-i-test.true in
-    let wide2-told = c.wide-p.ensures in
+    let loop_test = c.loop-i-test.true in
+    let wide2_told = c.wide-p.ensures in
     let N = numbers invariant in
-    let R = rising invariant loop-test _ _ wide2-told c.wide-q.ensures in
+    let R = rising invariant loop_test _ _ wide2_told c.wide-q.ensures in
     omega arith
 
 pub overflow_add-i-else-wide-others : goal.overflow_add-i-else-wide-others
@@ -101,11 +101,11 @@ loop-i-smaller c = let N = numbers c.loop-i.invariant in omega arith
 pub loop-i-preserved : goal.loop-i-preserved
 loop-i-preserved c =
     let invariant = c.loop-i.invariant in
-    let loop-test = c.loop-i-test.true in
-    let wide-told = c.wide.ensures in
+    let loop_test = c.loop-i-test.true in
+    let wide_told = c.wide.ensures in
     let if1 = c.if-wide-others.false in
-    let wide2-told = c.wide-p.ensures in
-    member_joined invariant loop-test _ _ wide2-told c.wide-q.ensures _ wide-told if1 c.copy.ensures
+    let wide2_told = c.wide-p.ensures in
+    member_joined invariant loop_test _ _ wide2_told c.wide-q.ensures _ wide_told if1 c.copy.ensures
 
 pub shape_of-room : goal.shape_of-room
 shape_of-room c = let N = numbers c.loop-i.invariant in omega arith

@@ -25,5 +25,5 @@ bind_tail-requires c =
 
 pub returns : goal.returns
 returns c =
-    let bind-tail-told = c.bind_tail.ensures in
-    record { makes = λ p D k. right-made D k c.lay_value-k.ensures.value c.lay_value-k.ensures.room_after refl bind-tail-told; kept = λ p D k. tail_kept D _ c.lay_value-k.ensures.room_after bind-tail-told }
+    let bind_tail_told = c.bind_tail.ensures in
+    record { makes = λ p D k. right-made D k c.lay_value-k.ensures.value c.lay_value-k.ensures.room_after refl bind_tail_told; kept = λ p D k. tail_kept D _ c.lay_value-k.ensures.room_after bind_tail_told }

@@ -28,8 +28,8 @@ slice_bounds-note-end c =
 
 pub note-requires : goal.note-requires
 note-requires c =
-    let set-number-told = c.set_number.ensures in
-    note_asks c.requires _ set-number-told c.with_nodes-more.ensures
+    let set_number_told = c.set_number.ensures in
+    note_asks c.requires _ set_number_told c.with_nodes-more.ensures
 
 pub returns-in-Held : goal.returns-in-Held
 returns-in-Held c =
