@@ -1,2 +1,1 @@
 pub mod Solved
-pub mod Enough

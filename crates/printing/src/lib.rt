@@ -1,6 +1,6 @@
 // What the program `solve` prints, and the printing of it: a list's text, or the two lines of a refusal.
 //
-// In specs/, `Solved` says what is printed for any input; `Enough` shows that the sizes lent hold what every good question needs.
+// In specs/, `Solved` says what is printed for any input; in proofs/, `Enough` shows that the sizes lent hold what every good question needs.
 #![tactic(auto)]
 
 ghost use Rattle.std.specs.Prelude.{◌≡◌, ◌≤◌, length};

@@ -19,7 +19,7 @@ use Rattle.results.specs.declared.ran.Ending.{Ending}
 use Rattle.results.specs.Result.{RunGives, Told, refuses, gives, told, result}
 use Rattle.results.specs.declared.ran.Ran.{Ran}
 use Rattle.results.specs.declared.ran.Ran.TheVariants.{Ended, Refused}
-use Rattle.guarantees.specs.Promised.{buffer_after}
+use Rattle.guarantees.proofs.Promised.{buffer_after}
 use Rattle.printing.specs.Solved.{STEPS, DEPTH, SIZE, refused, of_list, of_run, of_words, of_reading}
 
 within : (xs ys : List ℕ) → length xs ≤ length (xs ++ ys)

@@ -1,6 +1,6 @@
 // From a question's text to the text of its answers: what SPECIFICATION 10.1 says of the program `solve`, over slices. The program itself only moves bytes.
 //
-// `Solved` of printing's specs/ says what is printed for any input; its `Enough` shows that the sizes here hold what every good question needs.
+// `Solved` of printing's specs/ says what is printed for any input; `Enough` of its proofs/ shows that the sizes here hold what every good question needs.
 #![tactic(auto)]
 
 ghost use Rattle.std.specs.Prelude.{◌≡◌, length};

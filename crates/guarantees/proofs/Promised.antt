@@ -39,15 +39,15 @@ use Rattle.results.specs.declared.ran.Ending.{Ending}
 use Rattle.results.specs.declared.ran.Ran.TheVariants as running
 use Rattle.guarantees.specs.Calls.{Posed, asked, in_words, Lending, loan_of, in_room, run_told, answers_after, used, question_told, question_after, list_told, list_after, solves_told, text_told, arities_after, words_after}
 use Rattle.guarantees.specs.Notions.{Granted, ReadOnce, largest, NestsWithin, Writable, Writes, Reads, question_in, Compared, Tried, OneOf}
-use Rattle.guarantees.specs.Proofs.Granting as granting
-use Rattle.guarantees.specs.Proofs.AnswersTrue as answering
-use Rattle.guarantees.specs.Proofs.GrantedList as listing
-use Rattle.guarantees.specs.Proofs.MoreLent as more-lent
-use Rattle.guarantees.specs.Proofs.Nesting as nests
-use Rattle.guarantees.specs.Proofs.Texts as texts
-use Rattle.guarantees.specs.Proofs.ComparedByLaws as comparing
-use Rattle.guarantees.specs.Proofs.Refusing as refusing
-use Rattle.guarantees.specs.Proofs.RefusalNumbers as numbers
+use Rattle.guarantees.proofs.Subjects.Granting as granting
+use Rattle.guarantees.proofs.Subjects.AnswersTrue as answering
+use Rattle.guarantees.proofs.Subjects.GrantedList as listing
+use Rattle.guarantees.proofs.Subjects.MoreLent as more-lent
+use Rattle.guarantees.proofs.Subjects.Nesting as nests
+use Rattle.guarantees.proofs.Subjects.Texts as texts
+use Rattle.guarantees.proofs.Subjects.ComparedByLaws as comparing
+use Rattle.guarantees.proofs.Subjects.Refusing as refusing
+use Rattle.guarantees.proofs.Subjects.RefusalNumbers as numbers
 
 -- ---- 1. a granted run
 

@@ -31,10 +31,10 @@ use Rattle.writer.specs.Written.{fitted, nested, tested, held, too_deep_in, ques
 use Rattle.results.specs.declared.written.Written.TheVariants.{Length, Refused}
 use Rattle.guarantees.specs.Calls.{Posed, asked, in_words, question_told, question_after, text_told, arities_after, words_after}
 use Rattle.guarantees.specs.Notions.{NestsWithin, Writable, Writes, Reads, question_in, OneOf}
-use Rattle.guarantees.specs.Proofs.{impossible}
-use Rattle.guarantees.specs.Proofs.Granting.{asked_exactly}
-use Rattle.guarantees.specs.Proofs.Nesting.{question_nests}
-use Rattle.guarantees.specs.Proofs.RefusalNumbers.{Numbered, passed, told_as, question_numbered}
+use Rattle.guarantees.proofs.Subjects.{impossible}
+use Rattle.guarantees.proofs.Subjects.Granting.{asked_exactly}
+use Rattle.guarantees.proofs.Subjects.Nesting.{question_nests}
+use Rattle.guarantees.proofs.Subjects.RefusalNumbers.{Numbered, passed, told_as, question_numbered}
 
 -- ---- what is written
 

@@ -15,7 +15,7 @@ use Rattle.answers.proofs.SolvedExactly as solved
 use Rattle.results.specs.Result.{gives}
 use Rattle.guarantees.specs.Calls.{Posed, asked, Lending, loan_of, run_told}
 use Rattle.guarantees.specs.Notions.{Granted, ReadOnce}
-use Rattle.guarantees.specs.Proofs.Granting.{granted_exactly, done_by_number}
+use Rattle.guarantees.proofs.Subjects.Granting.{granted_exactly, done_by_number}
 
 module _ (q : Posed) (l : Lending) (o : Outcome) (gave : run_told q l ≡ gives o) where
   granted : Granted q l o

@@ -22,8 +22,8 @@ use Rattle.results.specs.declared.compared.Solving.{Solving}
 use Rattle.results.specs.declared.compared.Solving.TheVariants as solving
 use Rattle.guarantees.specs.Calls.{Posed, asked, solves_told}
 use Rattle.guarantees.specs.Notions.{Compared, Tried}
-use Rattle.guarantees.specs.Proofs.{impossible}
-use Rattle.guarantees.specs.Proofs.Granting.{asked_exactly}
+use Rattle.guarantees.proofs.Subjects.{impossible}
+use Rattle.guarantees.proofs.Subjects.Granting.{asked_exactly}
 
 -- a test that agrees with P fails exactly if P does not hold
 fails_exactly : {P : Type 0} (b : Bool) → P ↔ (b ≡ true) → (P → ⊥) ↔ (b ≡ false)

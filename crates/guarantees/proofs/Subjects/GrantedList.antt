@@ -33,9 +33,9 @@ use Rattle.results.specs.declared.written.Written.TheVariants.{Length, Refused}
 use Rattle.results.specs.Result.{gives, words_told}
 use Rattle.guarantees.specs.Calls.{Posed, Lending, loan_of, run_told, answers_after, used, list_told}
 use Rattle.guarantees.specs.Notions.{Granted}
-use Rattle.guarantees.specs.Proofs.{impossible}
-use Rattle.guarantees.specs.Proofs.Granting.{granted_exactly}
-use Rattle.guarantees.specs.Proofs.AnswersTrue.{answers_stated}
+use Rattle.guarantees.proofs.Subjects.{impossible}
+use Rattle.guarantees.proofs.Subjects.Granting.{granted_exactly}
+use Rattle.guarantees.proofs.Subjects.AnswersTrue.{answers_stated}
 
 -- ---- within what was lent
 

@@ -23,7 +23,7 @@ use Rattle.results.specs.Loans.{loan, needed, ending}
 use Rattle.results.specs.Result.{gives, told, told_within, result}
 use Rattle.guarantees.specs.Calls.{Posed, asked, Lending, loan_of, in_room, run_told, answers_after, used}
 use Rattle.guarantees.specs.Notions.{Granted, ReadOnce}
-use Rattle.guarantees.specs.Promised
+use Rattle.guarantees.proofs.Promised
 pub mod Entries
 
 -- a key: to unfold it is to unfold what a call computes by, beside the search

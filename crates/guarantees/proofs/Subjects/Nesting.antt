@@ -14,7 +14,7 @@ use Rattle.word_writer.specs.Depths.{depths, rest_depths, argument_depths, furth
 use Rattle.lines.specs.ListLines.{binding_depths, list_depths}
 use Rattle.writer.specs.Written.{too_deep_in, too_deep_in_list}
 use Rattle.guarantees.specs.Notions.{largest, NestsWithin}
-use Rattle.guarantees.specs.Proofs.{impossible}
+use Rattle.guarantees.proofs.Subjects.{impossible}
 
 module _ (most : ℕ) where
   abbrev Low : List ℕ → Type 0

@@ -39,8 +39,8 @@ use Rattle.writer.specs.Written as writer
 use Rattle.results.specs.Loans.{ending, loan, needed}
 use Rattle.results.specs.Result.{gives, told, told_within}
 use Rattle.guarantees.specs.Calls.{Lending, in_words}
-use Rattle.guarantees.specs.Promised.{end_by_number, list-fits, steps_suffice}
-use Rattle.guarantees.specs.Proofs.GrantedList.{list_fine}
+use Rattle.guarantees.proofs.Promised.{end_by_number, list-fits, steps_suffice}
+use Rattle.guarantees.proofs.Subjects.GrantedList.{list_fine}
 use Rattle.printing.specs.Solved.{STEPS, DEPTH, SIZE, ANSWERS, ROOM, OUTPUT, Found, lists, refused, of_written, of_list, of_run, of_words, of_reading, found}
 
 -- what is found has the room that it needs: a list's text fits the output, and a refusal is none of 7 and 8

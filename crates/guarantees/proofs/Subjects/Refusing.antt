@@ -12,7 +12,7 @@ use Rattle.results.specs.declared.written.Written.TheVariants as writing
 use Rattle.results.specs.Result.{Told, refuses, gives, result, words_told}
 use Rattle.results.specs.declared.ran.Ran.TheVariants as running
 use Rattle.guarantees.specs.Calls.{Posed, Lending, run_told, answers_after, question_told, question_after, list_told, list_after, text_told, arities_after, words_after}
-use Rattle.guarantees.specs.Proofs.{impossible}
+use Rattle.guarantees.proofs.Subjects.{impossible}
 
 pub text_refused : (text arities words : List ℕ) (r : Refusal) → answer (text_told text arities words) ≡ reading.Refused r
     → (arities_after text arities words ≡ arities) × (words_after text arities words ≡ words)

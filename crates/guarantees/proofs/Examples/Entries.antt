@@ -35,8 +35,8 @@ use Rattle.results.specs.declared.written.Written.TheVariants as writing
 use Rattle.results.specs.Result.{refuses, result}
 use Rattle.guarantees.specs.Calls.{Posed, asked, in_words, Lending, in_room, run_told, answers_after, question_told, question_after, list_told, list_after, text_told, arities_after, words_after}
 use Rattle.guarantees.specs.Notions.{largest, NestsWithin, Writable, Writes, Reads, question_in, Compared, Tried, OneOf}
-use Rattle.guarantees.specs.Examples.{calling, question, sufficient, outcome, gave, pair, one_answer, first_answer, gave_one}
-use Rattle.guarantees.specs.Promised
+use Rattle.guarantees.proofs.Examples.{calling, question, sufficient, outcome, gave, pair, one_answer, first_answer, gave_one}
+use Rattle.guarantees.proofs.Promised
 
 -- a key: what writing computes by, beside the check of words
 unfoldable writing_key : Unit {0}

@@ -13,8 +13,8 @@ use Rattle.promises.specs.Wording.{NoLess, Begins, followed_by}
 use Rattle.results.specs.Result.{gives}
 use Rattle.guarantees.specs.Calls.{Posed, asked, Lending, loan_of, in_room, run_told, answers_after, used}
 use Rattle.guarantees.specs.Notions.{Granted}
-use Rattle.guarantees.specs.Proofs.Granting.{granted_exactly, done_by_number}
-use Rattle.guarantees.specs.Proofs.GrantedList.{buffer_after}
+use Rattle.guarantees.proofs.Subjects.Granting.{granted_exactly, done_by_number}
+use Rattle.guarantees.proofs.Subjects.GrantedList.{buffer_after}
 
 -- ---- two runs
 

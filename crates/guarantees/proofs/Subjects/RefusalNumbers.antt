@@ -44,9 +44,9 @@ use Rattle.results.specs.Loans.{needed, loan}
 use Rattle.results.specs.Result.{Told, refuses, gives, told, told_within}
 use Rattle.guarantees.specs.Calls.{Posed, asked, Lending, loan_of, run_told, question_told, list_told, solves_told, text_told}
 use Rattle.guarantees.specs.Notions.{OneOf}
-use Rattle.guarantees.specs.Proofs.{impossible}
-use Rattle.guarantees.specs.Proofs.Granting.{granted_exactly}
-use Rattle.guarantees.specs.Proofs.GrantedList.{past_the_check}
+use Rattle.guarantees.proofs.Subjects.{impossible}
+use Rattle.guarantees.proofs.Subjects.Granting.{granted_exactly}
+use Rattle.guarantees.proofs.Subjects.GrantedList.{past_the_check}
 
 -- ---- of the checks
 

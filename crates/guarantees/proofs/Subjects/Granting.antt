@@ -23,7 +23,7 @@ use Rattle.results.specs.declared.ran.Ending.{Ending}
 use Rattle.results.specs.declared.ran.Ran.TheVariants.{Ended}
 use Rattle.guarantees.specs.Calls.{Posed, asked, Lending, loan_of, run_told}
 use Rattle.guarantees.specs.Notions.{Granted}
-use Rattle.guarantees.specs.Proofs.{impossible}
+use Rattle.guarantees.proofs.Subjects.{impossible}
 
 -- words pass the check exactly if they ask a good question
 asked_fine : {e : ℕ} {ws : List ℕ} (g : Question) → Asked edition_one e ws g → check_question edition_one g.unknowns g.arities e ws ≡ Fine
