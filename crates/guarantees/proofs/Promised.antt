@@ -1,7 +1,7 @@
 -- What a customer may rely on, call by call, under nine heads; read it with docs/SPECIFICATION.md beside it. Nothing is asked of a call but that it gave what it gave: the line
 -- `run_told q l ≡ gives o` says that `run`, asked q and lent l, was granted with the outcome o. Nothing is assumed, and each line is proved where it points to.
 --
--- `Calls` has the terms of the entries' contracts, `Notions` the notions that are new here, `Examples` a specimen for each line. Of the crates below: terms/specs/Formed
+-- specs/Calls has the terms of the entries' contracts, specs/Notions the notions that are new here, `Examples` a specimen for each line. Of the crates below: terms/specs/Formed
 -- has questions and when they are good, laws/specs/Laws when terms are equal, laws/specs/Values when values solve, answers/specs/Fits what it is to meet and to fit
 -- an answer, search/specs/Run the published search, promises/specs/Wording when a loan is no less than another, terms/specs/Refusal and search/specs/Ends the
 -- numbers of refusals and ends.

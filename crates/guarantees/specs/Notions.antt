@@ -1,4 +1,4 @@
--- The notions that `Promised` adds to the terms of the contracts: when a run is granted, what it is to read an answer in one way only, to write and to read a
+-- The notions that proofs/Promised adds to the terms of the contracts: when a run is granted, what it is to read an answer in one way only, to write and to read a
 -- question, to compare ground terms and to try values.
 use Rattle.std.specs.Prelude.{ℕ, ◌+◌, ◌*◌, ◌≤◌, max, ◌≡◌, List, [], ◌∷◌, ◌++◌, length, take, drop}
 use Rattle.room.specs.Layout.{HEADER, SPARE_ROWS}

@@ -6,8 +6,8 @@
 //     ends      how a run ends
 //
 // In specs/, `State`, `Classify`, `Children` and `Run` are the search, in the order of SPECIFICATION 5 and 6; `Specimens` is the table of 11, computed. `StepView`
-// has what each step tells of its equation, and `Verdicts` what a verdict tells of its visit: laws, for the proofs of the floors above, which stand in
-// proofs/StepView and proofs/Verdicts.
+// says what each step tells of its equation, and `Verdicts` what a verdict tells of its visit; in proofs/, the two files of these names have the laws that every
+// step and every verdict is so, for the proofs of the floors above.
 #![tactic(auto)]
 
 pub mod ends;
