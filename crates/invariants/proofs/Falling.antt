@@ -134,35 +134,35 @@ module _ {arities : List ℕ} {from st : State} {n : ℕ} (opened : Opened from 
   falls-twice : {es : List Equation} (x y : ℕ) {T U : List Term} → (x ≡ y → ⊥) → Use (unknown x) → Use (unknown y) → All Use T → All Use U → All Sides es
       → Falls arities from (settle Different (unknown x) (unknown y) T U es st)
   unfolding settle number then_bound renewed pend bound_state unbound
-  falls-twice {es} x y {T} {U} d ux uy hT hU hs = first (bound_to x forX begun)
+  falls-twice {es} x y {T} {U} d ux uy hT hU hs = first (bound_to x for_x begun)
     where
       begun : State
       begun = renewed (pend (es ++ st.pending) st)
 
-      forX : Term
-      forX = over U (unknown st.next)
+      for_x : Term
+      for_x = over U (unknown st.next)
 
-      forY : Term
-      forY = subst x forX (over T (unknown st.next))
+      for_y : Term
+      for_y = subst x for_x (over T (unknown st.next))
 
       filled : {ms : List Term} → All Use ms → Usable arities (suc st.next) st.bindings (over ms (unknown st.next))
       filled hs = usable_over (All-map (λ m h. usable_renewed h) hs) (usable_new o)
 
-      second : (e : occurs x forX ≡ false) {k : Node} → BoundTo y forY (bound_state x forX begun) k → Falls arities from k
+      second : (e : occurs x for_x ≡ false) {k : Node} → BoundTo y for_y (bound_state x for_x begun) k → Falls arities from k
       second e (bound_inside _) = ends_dead
       second e (bound_once e') =
-          let u : Usable arities (suc st.next) (st.bindings ++ (record { name = x; value = forX } ∷ [])) (unknown y) =
-          usable_unknown (usable_below (usable_renewed uy)) (named-after y x forX st.bindings (λ h. d (sym h)) (usable_unbound uy)) in
-          let l = bound_fewer begun x forX (usable_renewed ux) in
-          let m = bound_fewer (bound_state x forX begun) y forY u in
+          let u : Usable arities (suc st.next) (st.bindings ++ (record { name = x; value = for_x } ∷ [])) (unknown y) =
+          usable_unknown (usable_below (usable_renewed uy)) (named-after y x for_x st.bindings (λ h. d (sym h)) (usable_unbound uy)) in
+          let l = bound_fewer begun x for_x (usable_renewed ux) in
+          let m = bound_fewer (bound_state x for_x begun) y for_y u in
           let r = renewed-more (pend (es ++ st.pending) st) in
           fewer_unbound
           (orderly_bound y e' (orderly_bound x e (orderly_renewed (with_new hs)) (usable_renewed ux) (filled hU)) u (usable_replaced x e (filled hU) (filled hT)))
           (omega (arith, weight-some (suc n))) (omega arith) (omega arith)
 
-      first : {k : Node} → BoundTo x forX begun k → Falls arities from (then_bound y forY k)
+      first : {k : Node} → BoundTo x for_x begun k → Falls arities from (then_bound y for_y k)
       first (bound_inside e) = ends_dead
-      first (bound_once e) = second e (bound_to y forY (bound_state x forX begun))
+      first (bound_once e) = second e (bound_to y for_y (bound_state x for_x begun))
 
   falls-settled : {k : Tails} {s r : Term} (T U : List Term) {es : List Equation} → Tailed s r k → Use s → Use r → size s + size r ≤ n → All Use T → All Use U
       → All Sides es → length es ≤ n

@@ -6,7 +6,7 @@ use Rattle.std.proofs.Common.{◌∙◌, sym, eq-eqb, ne_eqb}
 use mathlib.Core.List.{List, [], ◌∷◌, map}
 use Rattle.std.proofs.Math.ListN.{length, length-map}
 use native.Mathlib.Omega.{arith}
-use Rattle.terms.specs.Lists.{All, none as All-none, both, any, All-map, All_of_flatMap, cases, or_left, or_right, or_else}
+use Rattle.terms.specs.Lists.{All, none as All-none, both, any, All-map, All_of_flat_map, cases, or_left, or_right, or_else}
 use Rattle.terms.specs.Term.{Term, unknown, members, over}
 use Rattle.terms.specs.Laws.Flat.{size_positive}
 use Rattle.terms.specs.Formed.{Equation}
@@ -53,7 +53,7 @@ waits_apart y (both {x = n} d ds) = rw (ne_eqb n.name y d) (waits_apart y ds)
 
 joined_each : {P : Term → Type 0} (x : ℕ) {ns : List Entry} → All (λ n. All P (members n.term)) ns → All P (joined x ns)
 unfolding joined
-joined_each x hs = All_of_flatMap _ (λ n h. h.1) (All-entries x hs)
+joined_each x hs = All_of_flat_map _ (λ n h. h.1) (All-entries x hs)
 
 -- ---- the join
 

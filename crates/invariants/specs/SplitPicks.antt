@@ -5,7 +5,7 @@ use Rattle.std.proofs.Common.{ap}
 use Rattle.std.proofs.Math.Bool.{true, false}
 use Rattle.std.proofs.Math.ListN.{length-append, length-map}
 use native.Mathlib.Omega.{arith}
-use Rattle.terms.specs.Lists.{All, none as All-none, both, All-append, All_of_map, All_of_flatMap, product}
+use Rattle.terms.specs.Lists.{All, none as All-none, both, All-append, All_of_map, All_of_flat_map, product}
 use Rattle.terms.specs.Term.{Term, members, kernel}
 use Rattle.terms.specs.Shape.{is_unknown}
 use Rattle.terms.specs.Formed.{Equation}
@@ -28,7 +28,7 @@ pub record Choice (R S : Term → Type 0) (P : Equation → Type 0) (ts us T U :
 product_each : {A : Type 0} {P : A → Type 0} {xss : List (List A)} → All (All P) xss → All (λ l. All P l × (length l ≡ length xss)) (product xss)
 unfolding product
 product_each All-none = both (All-none, refl) All-none
-product_each (both h hs) = All_of_flatMap _ (λ x p. All_of_map _ (λ l q. (both p q.0, ap suc q.1)) (product_each hs)) h
+product_each (both h hs) = All_of_flat_map _ (λ x p. All_of_map _ (λ l q. (both p q.0, ap suc q.1)) (product_each hs)) h
 
 new_length : (ps : List Pick) → length (new_equations ps) ≤ length ps
 unfolding new_equations
@@ -67,7 +67,7 @@ module _ {R S : Term → Type 0} {P : Equation → Type 0} (pairs : (t u : Term)
       → ((T U : List Term) (es : List Equation) → Choice R S P (members t) (members u) T U es → X (settle k (kernel t) (kernel u) T U es st)) → All X (split k t u st)
   unfolding split
   split_each k t u st hs ks f =
-      All_of_flatMap _
+      All_of_flat_map _
       (λ ps p. All_of_map _
       (λ qs q. f (joining ps) (joining qs) (new_equations ps ++ new_equations qs)
       (record {

@@ -12,7 +12,7 @@ use Rattle.terms.specs.Shape.{is_unknown}
 use Rattle.search.specs.declared.steps.Tails.{Tails}
 use Rattle.search.specs.State.{State, Node}
 use Rattle.search.specs.Children.{Pick, new_equations, joining, settle, split}
-use Rattle.search_laws.specs.ChoiceNumbers.{drop-next, get_or-first, drop-map, drop_flatMap, choices, number, Digits, number-below, chosen, radices, length-product, drop-product}
+use Rattle.search_laws.specs.ChoiceNumbers.{drop-next, get_or-first, drop-map, drop-flat_map, choices, number, Digits, number-below, chosen, radices, length-product, drop-product}
 use Rattle.search_laws.specs.Picking.{unread, picks, radices-picks, equations-chosen, joining-chosen, t_radices, u_radices, child_of, child_number, split_is, widths}
 
 module _ (k : Tails) (t u : Term) (st : State) where
@@ -73,7 +73,7 @@ module _ (k : Tails) (t u : Term) (st : State) where
       let E : ℕ = number (u_radices k t u st) es in
       let F : List Pick → List Pick → Node = λ ps qs. settle k (kernel t) (kernel u) (joining ps) (joining qs) (new_equations ps ++ new_equations qs) st in
       let part : drop (D * choices (u_radices k t u st) + E) (flat_map below (product P)) ≡ drop E (below (get_or (product P) D [])) ++ flat_map below (drop (suc D) (product P)) =
-      drop_flatMap below (choices (u_radices k t u st)) [] (widths k t u st (product P)) D E (number_of-t h) (omega (arith, number-below g)) in
+      drop-flat_map below (choices (u_radices k t u st)) [] (widths k t u st (product P)) D E (number_of-t h) (omega (arith, number-below g)) in
       let ps : get_or (product P) D [] ≡ chosen unread P ds = get_or-first D (product P) [] _ _ (place_of_t h) in
       let inner : drop E (below (chosen unread P ds)) ≡ F (chosen unread P ds) (chosen unread Q es) ∷ map (F (chosen unread P ds)) (drop (suc E) (product Q)) =
       drop-map (F (chosen unread P ds)) E (product Q) ∙ ap (map (F (chosen unread P ds))) (place_of_u g) in (

@@ -32,21 +32,21 @@ module _ {A B : Type 0} where
   drop-map f (suc c) (x ∷ l) = drop-map f c l
 
   -- parts of one length n: place i * n + k is place k of part i
-  pub drop_flatMap : (f : A → List B) (n : ℕ) (d : A) {l : List A} → All (λ x. length (f x) ≡ n) l → (i k : ℕ) → i < length l → k ≤ n
+  pub drop-flat_map : (f : A → List B) (n : ℕ) (d : A) {l : List A} → All (λ x. length (f x) ≡ n) l → (i k : ℕ) → i < length l → k ≤ n
       → drop (i * n + k) (flat_map f l) ≡ drop k (f (get_or l i d)) ++ flat_map f (drop (suc i) l)
   unfolding flat_map
-  drop_flatMap f n d none i k h m = absurd (omega arith)
-  drop_flatMap f n d (both {x = x} {xs = l} e es) zero k h m =
+  drop-flat_map f n d none i k h m = absurd (omega arith)
+  drop-flat_map f n d (both {x = x} {xs = l} e es) zero k h m =
       let z : zero * n + k ≡ k = omega (arith, zero-mul n) in
       rw z (drop-append-le k (f x) (flat_map f l) (omega arith))
-  drop_flatMap f n d (both {x = x} {xs = l} e es) (suc i) k h m =
+  drop-flat_map f n d (both {x = x} {xs = l} e es) (suc i) k h m =
       let z : suc i * n + k ≡ length (f x) + (i * n + k) = omega (arith, suc-mul i n) in
-      rw (z, drop-append-add) (drop_flatMap f n d es i k (omega arith) m)
+      rw (z, drop-append-add) (drop-flat_map f n d es i k (omega arith) m)
 
-  pub length_flatMap : (f : A → List B) (n : ℕ) {l : List A} → All (λ x. length (f x) ≡ n) l → length (flat_map f l) ≡ length l * n
+  pub length-flat_map : (f : A → List B) (n : ℕ) {l : List A} → All (λ x. length (f x) ≡ n) l → length (flat_map f l) ≡ length l * n
   unfolding flat_map
-  length_flatMap f n none = sym (zero-mul n)
-  length_flatMap f n (both {x = x} {xs = l} e es) = omega (arith, length-append (f x) (flat_map f l), length_flatMap f n es, suc-mul (length l) n)
+  length-flat_map f n none = sym (zero-mul n)
+  length-flat_map f n (both {x = x} {xs = l} e es) = omega (arith, length-append (f x) (flat_map f l), length-flat_map f n es, suc-mul (length l) n)
 
 -- ---- digits
 
@@ -91,7 +91,7 @@ module _ {A : Type 0} (d : A) where
   pub length-product : (xss : List (List A)) → length (product xss) ≡ choices (radices xss)
   unfolding product choices radices
   length-product [] = refl
-  length-product (xs ∷ xss) = length_flatMap (λ x. map (λ l. x ∷ l) (product xss)) _ (fronts xss _ (length-product xss) xs)
+  length-product (xs ∷ xss) = length-flat_map (λ x. map (λ l. x ∷ l) (product xss)) _ (fronts xss _ (length-product xss) xs)
 
   found : (xss : List (List A)) {is : List ℕ} → Digits (radices xss) is
       → (t : List (List A)) × (drop (number (radices xss) is) (product xss) ≡ chosen xss is ∷ t)
@@ -103,7 +103,7 @@ module _ {A : Type 0} (d : A) where
       let x : A = get_or xs i d in
       let f : A → List (List A) = λ y. map (λ l. y ∷ l) (product xss) in
       let part : drop (i * choices (radices xss) + k) (flat_map f xs) ≡ drop k (f x) ++ flat_map f (drop (suc i) xs) =
-      drop_flatMap f (choices (radices xss)) d (fronts xss _ (length-product xss) xs) i k h (omega (arith, number-below hs)) in
+      drop-flat_map f (choices (radices xss)) d (fronts xss _ (length-product xss) xs) i k h (omega (arith, number-below hs)) in
       let inner : drop k (f x) ≡ map (λ l. x ∷ l) (chosen xss is ∷ p.0) =
       drop-map (λ l. x ∷ l) k (product xss) ∙ ap (map (λ l. x ∷ l)) p.1 in
       (map (λ l. x ∷ l) p.0 ++ flat_map f (drop (suc i) xs), part ∙ ap (λ l. l ++ flat_map f (drop (suc i) xs)) inner)

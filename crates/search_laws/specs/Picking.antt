@@ -15,7 +15,7 @@ use Rattle.terms.specs.Shape.{is_unknown}
 use Rattle.search.specs.declared.steps.Tails.{Tails}
 use Rattle.search.specs.State.{State, Node}
 use Rattle.search.specs.Children.{Pick, meets, joins, tail_pick, picks_of_t, picks_of_u, new_equations, joining, settle, split}
-use Rattle.search_laws.specs.ChoiceNumbers.{length_flatMap, choices, number, Digits, no_digit, digit, chosen, radices, length-product}
+use Rattle.search_laws.specs.ChoiceNumbers.{length-flat_map, choices, number, Digits, no_digit, digit, chosen, radices, length-product}
 
 -- ---- one member's picks
 
@@ -52,16 +52,16 @@ module _ (pair : Term → Term → Equation) (tail : Bool) (others : List Term) 
       go true = omega (arith, length-append (map (λ o. meets (pair own o)) others) (joins own ∷ []), length-map others (λ o. meets (pair own o)))
       go false = omega (arith, length-append (map (λ o. meets (pair own o)) others) [], length-map others (λ o. meets (pair own o)))
 
-  get_d_map : (f : Term → Pick) (l : List Term) (i : ℕ) → i < length l → get_or (map f l) i unread ≡ f (get_or l i empty)
-  get_d_map f [] i h = absurd (omega arith)
-  get_d_map f (x ∷ l) zero h = refl
-  get_d_map f (x ∷ l) (suc i) h = get_d_map f l i (omega arith)
+  get_or-map : (f : Term → Pick) (l : List Term) (i : ℕ) → i < length l → get_or (map f l) i unread ≡ f (get_or l i empty)
+  get_or-map f [] i h = absurd (omega arith)
+  get_or-map f (x ∷ l) zero h = refl
+  get_or-map f (x ∷ l) (suc i) h = get_or-map f l i (omega arith)
 
   meets_at : (own : Term) (d : ℕ) → d < length others → get_or (picks own) d unread ≡ meets (pair own (get_or others d empty))
   unfolding picks
   meets_at own d h =
       get_or-append (map (λ o. meets (pair own o)) others) (tail_pick tail own) unread d (omega (arith, length-map others (λ o. meets (pair own o))))
-      ∙ get_d_map (λ o. meets (pair own o)) others d h
+      ∙ get_or-map (λ o. meets (pair own o)) others d h
 
   joins_at : (own : Term) (d : ℕ) → length others ≤ d → d < radix tail (length others) → get_or (picks own) d unread ≡ joins own
   unfolding picks radix tail_pick
@@ -153,5 +153,5 @@ module _ (k : Tails) (t u : Term) (st : State) where
   pub length-split : length (split k t u st) ≡ choices t_radices * choices u_radices
   length-split =
       rw split_is
-      (length_flatMap below (choices u_radices) (widths (product P))
+      (length-flat_map below (choices u_radices) (widths (product P))
       ∙ ap (λ n. n * choices u_radices) (length-product unread P ∙ ap choices (radices-picks left_pair (is_unknown (kernel u)) us ts)))

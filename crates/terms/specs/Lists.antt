@@ -155,19 +155,19 @@ module _ {A B : Type 0} where
   All_of_map f g none = none
   All_of_map f g (both {x = x} h hs) = both (g x h) (All_of_map f g hs)
 
-  pub All_of_flatMap : {P : A → Type 0} {Q : B → Type 0} (f : A → List B) → ((x : A) → P x → All Q (f x)) → {xs : List A} → All P xs → All Q (flat_map f xs)
+  pub All_of_flat_map : {P : A → Type 0} {Q : B → Type 0} (f : A → List B) → ((x : A) → P x → All Q (f x)) → {xs : List A} → All P xs → All Q (flat_map f xs)
   unfolding flat_map
-  All_of_flatMap f g none = none
-  All_of_flatMap f g (both {x = x} h hs) = All-append (g x h) (All_of_flatMap f g hs)
+  All_of_flat_map f g none = none
+  All_of_flat_map f g (both {x = x} h hs) = All-append (g x h) (All_of_flat_map f g hs)
 
   pub Any_of_map : {P : A → Type 0} {Q : B → Type 0} (f : A → B) → ((x : A) → P x → Q (f x)) → {xs : List A} → Any P xs → Any Q (map f xs)
   Any_of_map f g (here {x = x} h) = here (g x h)
   Any_of_map f g (there h) = there (Any_of_map f g h)
 
-  pub Any_of_flatMap : {P : A → Type 0} {Q : B → Type 0} (f : A → List B) → ((x : A) → P x → Any Q (f x)) → {xs : List A} → Any P xs → Any Q (flat_map f xs)
+  pub Any_of_flat_map : {P : A → Type 0} {Q : B → Type 0} (f : A → List B) → ((x : A) → P x → Any Q (f x)) → {xs : List A} → Any P xs → Any Q (flat_map f xs)
   unfolding flat_map
-  Any_of_flatMap f g (here {x = x} {xs = xs} h) = Any-left (flat_map f xs) (g x h)
-  Any_of_flatMap f g (there {x = x} h) = Any-right (f x) (Any_of_flatMap f g h)
+  Any_of_flat_map f g (here {x = x} {xs = xs} h) = Any-left (flat_map f xs) (g x h)
+  Any_of_flat_map f g (there {x = x} h) = Any-right (f x) (Any_of_flat_map f g h)
 
 -- ---- the first and the rest, under a map taken back, and for each of many predicates at once
 

@@ -7,7 +7,7 @@ use mathlib.Core.List.{List, [], ◌∷◌, flat_map}
 use borrow.Author.Tests.{ltb-true, ltb-false}
 use Rattle.terms.specs.Bounds.{Bounds}
 use Rattle.terms.specs.Kind.{Worded}
-use Rattle.terms.specs.Lists.{All, Any, none, both, here, there, cases, All-map, All-both, All_of_flatMap, Any_with, Any_of_flatMap}
+use Rattle.terms.specs.Lists.{All, Any, none, both, here, there, cases, All-map, All-both, All_of_flat_map, Any_with, Any_of_flat_map}
 use Rattle.terms.specs.Formed.{Formed, Equation, Question, sides}
 use Rattle.terms.specs.Answers.{Binding, answer_words}
 use Rattle.terms.specs.Listing.{Bound}
@@ -54,7 +54,7 @@ module _ (b : Bounds) (q : Question) where
     visits-true (suc levels) d dead k h = both (λ l. none) none
     visits-true (suc levels) d (live st) (kept_live k) h =
         both (λ l. answer-true st.pending st.pile st.bindings l k.bindings (λ σ es ns bs. h σ (meets_live (record { pending = es; pile = ns; bindings = bs }))))
-        (All_of_flatMap (visits levels (suc d)) (λ c p. visits-true levels (suc d) c p.0 (λ σ m. h σ (meets_live (p.1 σ m))))
+        (All_of_flat_map (visits levels (suc d)) (λ c p. visits-true levels (suc d) c p.0 (λ σ m. h σ (meets_live (p.1 σ m))))
         (All-both (kept-children k) (All_for_each (children st) (λ σ. sound_children σ k))))
 
   -- ---- none lost
@@ -87,7 +87,7 @@ module _ (b : Bounds) (q : Question) where
             → ((c : Node) → KeptNode q.arities q.unknowns c → Reaches table q.unknowns σ c → Any Found (visits levels (suc d) c))
             → Any Found (visit d st ∷ flat_map (visits levels (suc d)) (children st))
         go (answered e f) rec = here (λ l m. fits-answer st k r e f m)
-        go (onward a) rec = there (Any_of_flatMap (visits levels (suc d)) (λ c p. rec c p.0 (farther k.in_use r.same p.1)) (Any_with (kept-children k) a))
+        go (onward a) rec = there (Any_of_flat_map (visits levels (suc d)) (λ c p. rec c p.0 (farther k.in_use r.same p.1)) (Any_with (kept-children k) a))
 
 -- ---- the root
 

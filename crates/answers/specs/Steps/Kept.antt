@@ -6,7 +6,7 @@ use mathlib.Core.List.{List, [], ◌∷◌, ◌++◌}
 use Rattle.std.proofs.Math.Bool.{true, false}
 use Rattle.std.proofs.Math.Nat.{le_refl}
 use native.Mathlib.Omega.{arith}
-use Rattle.terms.specs.Lists.{All, none, both, All-map, All-append, All_of_map, All_of_flatMap, Any-out, Any_with}
+use Rattle.terms.specs.Lists.{All, none, both, All-map, All-append, All_of_map, All_of_flat_map, Any-out, Any_with}
 use Rattle.terms.specs.Term.{Term, unknown, with, occurs, kernel, over}
 use Rattle.terms.specs.Shape.{number, arguments}
 use Rattle.terms.specs.Formed.{Formed, formed_unknown, formed_functor, Equation}
@@ -187,7 +187,7 @@ module _ {arities : List ℕ} where
       rest = record { in_use = k.in_use; pending = none; pile = All-map (λ x p. p.1) (All-others e.name (both f fs)); bindings = k.bindings }
 
       joined_formed : All (Formed arities st.next) (joined e.name (e ∷ es))
-      joined_formed = All_of_flatMap _ (λ x p. formed_members p.1.term) (All-entries e.name (both f fs))
+      joined_formed = All_of_flat_map _ (λ x p. formed_members p.1.term) (All-entries e.name (both f fs))
 
   kept_by : {n : ℕ} (es : List Equation) (st : State) → All (FormedEquation arities st.next) es → Kept arities n st → All (KeptNode arities n) (children_by es st)
   unfolding children_by pend

@@ -7,7 +7,7 @@ use mathlib.Core.List.{List, [], ◌∷◌, ◌++◌, map}
 use Rattle.std.proofs.Math.Bool.{true, false}
 use Rattle.std.proofs.lemmas.Bool.{false≢true}
 use Rattle.std.proofs.Math.Logic.{inl, inr}
-use Rattle.terms.specs.Lists.{All, Any, none, both, here, there, any, cases, product, All-map, All_self, All-append, All_of_map, All_of_flatMap, Any-left, Any-right, Any_of_map, Any_of_flatMap}
+use Rattle.terms.specs.Lists.{All, Any, none, both, here, there, any, cases, product, All-map, All_self, All-append, All_of_map, All_of_flat_map, Any-left, Any-right, Any_of_map, Any_of_flat_map}
 use Rattle.terms.specs.Term.{Term, members, kernel}
 use Rattle.terms.specs.Shape.{is_unknown}
 use Rattle.terms.specs.Formed.{Equation}
@@ -31,12 +31,12 @@ module _ {A B : Type 0} {P : A → B → Type 0} (f : A → List B) where
   product-all : ((x : A) → All (P x) (f x)) → (xs : List A) → All (Chosen P xs) (product (map f xs))
   unfolding product
   product-all h [] = both no_choice none
-  product-all h (x ∷ xs) = All_of_flatMap _ (λ y p. All_of_map (λ l. y ∷ l) (λ l c. choice p c) (product-all h xs)) (h x)
+  product-all h (x ∷ xs) = All_of_flat_map _ (λ y p. All_of_map (λ l. y ∷ l) (λ l c. choice p c) (product-all h xs)) (h x)
 
   product_any : {xs : List A} → All (λ x. Any (P x) (f x)) xs → Any (Chosen P xs) (product (map f xs))
   unfolding product
   product_any none = here no_choice
-  product_any (both h hs) = Any_of_flatMap _ (λ y p. Any_of_map (λ l. y ∷ l) (λ l c. choice p c) (product_any hs)) h
+  product_any (both h hs) = Any_of_flat_map _ (λ y p. Any_of_map (λ l. y ∷ l) (λ l c. choice p c) (product_any hs)) h
 
 -- ---- which picks a member has
 
@@ -69,7 +69,7 @@ pub split-all : {Q : Node → Type 0} (k : Tails) (t u : Term) (st : State)
     → All Q (split k t u st)
 unfolding split picks_of_t picks_of_u
 split-all k t u st h =
-    All_of_flatMap _ (λ ps c. All_of_map _ (λ qs d. h ps qs c d) (product-all _ (all-picks t_second (is_unknown (kernel t)) (members t)) (members u)))
+    All_of_flat_map _ (λ ps c. All_of_map _ (λ qs d. h ps qs c d) (product-all _ (all-picks t_second (is_unknown (kernel t)) (members t)) (members u)))
     (product-all _ (all-picks t_first (is_unknown (kernel u)) (members u)) (members t))
 
 -- ---- what picks say, where their equations hold
@@ -158,5 +158,5 @@ pub split-any : {Q : Node → Type 0} (σ : Values) (k : Tails) (t u : Term) (s 
     → Any Q (split k t u st)
 unfolding split picks_of_t picks_of_u
 split-any σ k t u s r st f g ht hu h =
-    Any_of_flatMap _ (λ ps c. Any_of_map _ (λ qs d. h ps qs c d) (best_picks σ t_second s (is_unknown (kernel t)) f (members t) (members u) hu))
+    Any_of_flat_map _ (λ ps c. Any_of_map _ (λ qs d. h ps qs c d) (best_picks σ t_second s (is_unknown (kernel t)) f (members t) (members u) hu))
     (best_picks σ t_first r (is_unknown (kernel u)) g (members u) (members t) ht)

@@ -19,10 +19,10 @@ agreeing_append at_end h = h
 agreeing_append (alike g) h = alike (agreeing_append g h)
 agreeing_append (too_deep l) h = too_deep l
 
-agreeing_flatMap : {lent : ℕ} (f g : Node → List Visit) → ((n : Node) → Agreeing lent (f n) (g n)) → (ns : List Node) → Agreeing lent (flat_map f ns) (flat_map g ns)
+agreeing_flat_map : {lent : ℕ} (f g : Node → List Visit) → ((n : Node) → Agreeing lent (f n) (g n)) → (ns : List Node) → Agreeing lent (flat_map f ns) (flat_map g ns)
 unfolding flat_map
-agreeing_flatMap f g h [] = at_end
-agreeing_flatMap f g h (n ∷ ns) = agreeing_append (h n) (agreeing_flatMap f g h ns)
+agreeing_flat_map f g h [] = at_end
+agreeing_flat_map f g h (n ∷ ns) = agreeing_append (h n) (agreeing_flat_map f g h ns)
 
 -- n levels reach below the lent depth, and m are no fewer
 pub visits_agreeing : (lent n m d : ℕ) (node : Node) → n ≤ m → d ≤ suc lent → lent + 2 ≤ d + n → Agreeing lent (visits n d node) (visits m d node)
@@ -32,4 +32,4 @@ visits_agreeing lent (suc n) zero d node h k l = absurd (omega arith)
 visits_agreeing lent (suc n) (suc m) d dead h k l = alike at_end
 visits_agreeing lent (suc n) (suc m) d (live st) h k l =
     cases (ltb lent d) (λ e. too_deep (ltb-true lent d e))
-    (λ e. alike (agreeing_flatMap _ _ (λ c. visits_agreeing lent n m (suc d) c (omega arith) (omega (arith, ltb-false lent d e)) (omega arith)) (children st)))
+    (λ e. alike (agreeing_flat_map _ _ (λ c. visits_agreeing lent n m (suc d) c (omega arith) (omega (arith, ltb-false lent d e)) (omega arith)) (children st)))

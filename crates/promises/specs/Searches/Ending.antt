@@ -64,10 +64,10 @@ module _ (arities : List ℕ) where
 
 -- ---- the list of visits
 
-flatMap_same : {A B : Type 0} (f g : A → List B) {xs : List A} → All (λ x. f x ≡ g x) xs → flat_map f xs ≡ flat_map g xs
+flat_map_same : {A B : Type 0} (f g : A → List B) {xs : List A} → All (λ x. f x ≡ g x) xs → flat_map f xs ≡ flat_map g xs
 unfolding flat_map
-flatMap_same f g All-none = refl
-flatMap_same f g (both h hs) = rw (h, flatMap_same f g hs)
+flat_map_same f g All-none = refl
+flat_map_same f g (both h hs) = rw (h, flat_map_same f g hs)
 
 -- more levels than there are show nothing more
 pub levels_seen : (n m d : ℕ) (node : Node) → Levels n node → n ≤ m → visits m d node ≡ visits n d node
@@ -75,7 +75,7 @@ unfolding visits
 levels_seen zero m d node x h = absurd x
 levels_seen (suc n) zero d node x h = absurd (omega arith)
 levels_seen (suc n) (suc m) d dead x h = refl
-levels_seen (suc n) (suc m) d (live st) x h = ap (λ l. visit d st ∷ l) (flatMap_same _ _ (All-map (λ c y. levels_seen n m (suc d) c y (omega arith)) x))
+levels_seen (suc n) (suc m) d (live st) x h = ap (λ l. visit d st ∷ l) (flat_map_same _ _ (All-map (λ c y. levels_seen n m (suc d) c y (omega arith)) x))
 
 pub visits-settle : (q : Question) → FormedQuestion q → (n : ℕ) × ((m : ℕ) → n ≤ m → visits m 0 (root q) ≡ visits n 0 (root q))
 unfolding root

@@ -3,7 +3,7 @@
 use Rattle.std.specs.Prelude.{ℕ, ◌+◌, suc, zero, ◌≤◌, ◌<◌, max, ◌≡◌, refl, List, [], ◌∷◌, length}
 use Rattle.std.proofs.Common.{ap, ◌∙◌, length-append, arith}
 use Rattle.terms.specs.Bounds.{Bounds}
-use Rattle.terms.specs.Lists.{All, none as All-none, both, All-map, All_of_flatMap, All_units, All-first, All-rest}
+use Rattle.terms.specs.Lists.{All, none as All-none, both, All-map, All_of_flat_map, All_units, All-first, All-rest}
 use Rattle.terms.specs.Answers.{listed, listed_append}
 use Rattle.search.specs.declared.ends.End.TheVariants.{Done}
 use Rattle.search.specs.State.{State, Node, dead, live}
@@ -22,7 +22,7 @@ unfolding visits
 visits_each I P hands_on at_dead at_live zero d node h = All-none
 visits_each I P hands_on at_dead at_live (suc n) d node is_dead = both (at_dead d) All-none
 visits_each I P hands_on at_dead at_live (suc n) d node (is_live {st = st} i) =
-    both (at_live d st i) (All_of_flatMap _ (λ c h. visits_each I P hands_on at_dead at_live n (suc d) c h) (hands_on st i))
+    both (at_live d st i) (All_of_flat_map _ (λ c h. visits_each I P hands_on at_dead at_live n (suc d) c h) (hands_on st i))
 
 -- n levels from depth d on
 pub visits-above : (n d : ℕ) (node : Node) → All (λ v. v.depth < d + n) (visits n d node)
@@ -30,7 +30,7 @@ unfolding visits visit dead_visit
 visits-above zero d node = All-none
 visits-above (suc n) d dead = both {x = dead_visit d} (omega arith) All-none
 visits-above (suc n) d (live st) =
-    both {x = visit d st} (omega arith) (All_of_flatMap _ (λ c h. All-map (λ v k. omega arith) (visits-above n (suc d) c)) (All_units (children st)))
+    both {x = visit d st} (omega arith) (All_of_flat_map _ (λ c h. All-map (λ v k. omega arith) (visits-above n (suc d) c)) (All_units (children st)))
 
 -- ---- a run that gives the whole
 
