@@ -18,46 +18,34 @@ pub enum Kind {
 pub fn kind_of(word: u16) -> Kind
     ensures { result ≡ kind edition_one word }
 {
-    if word == EMPTY {
-        return Kind::Empty;
+    match word {
+        EMPTY => Kind::Empty,
+        MEMBER => Kind::Member,
+        FIRST_UNKNOWN..FIRST_FUNCTOR => Kind::Unknown(word - FIRST_UNKNOWN),
+        FIRST_FUNCTOR..AFTER_FUNCTORS => Kind::Functor(word - FIRST_FUNCTOR),
+        _ => Kind::Nothing,
     }
-    if word == MEMBER {
-        return Kind::Member;
-    }
-    if word < FIRST_UNKNOWN {
-        return Kind::Nothing;
-    }
-    if word < FIRST_FUNCTOR {
-        return Kind::Unknown(word - FIRST_UNKNOWN);
-    }
-    if word < AFTER_FUNCTORS {
-        return Kind::Functor(word - FIRST_FUNCTOR);
-    }
-    Kind::Nothing
 }
 
 // Whether a word is an unknown's.
 pub fn is_unknown(word: u16) -> bool
     ensures { result ≡ within FIRST_UNKNOWN UNKNOWN_WORDS word }
 {
-    FIRST_UNKNOWN <= word && word < FIRST_FUNCTOR
+    (FIRST_UNKNOWN..FIRST_FUNCTOR).contains(&word)
 }
 
 // How many terms follow a word.
 pub fn terms_after(arities: &[u8], word: u16) -> u8
     ensures { result ≡ takes edition_one arities.now word }
 {
-    if word == MEMBER {
-        return 2;
+    match word {
+        MEMBER => 2,
+        FIRST_FUNCTOR.. => arities
+            .get(usize::from(word - FIRST_FUNCTOR))
+            .copied()
+            .unwrap_or(0),
+        _ => 0,
     }
-    if word < FIRST_FUNCTOR {
-        return 0;
-    }
-    let k = (word - FIRST_FUNCTOR) as usize;
-    if k < arities.len() {
-        return arities[k];
-    }
-    0
 }
 
 // The word of unknown i, and the number of the unknown that has a word.

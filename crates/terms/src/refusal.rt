@@ -3,7 +3,7 @@ ghost use Rattle.std.specs.Prelude.{◌≡◌};
 ghost use Rattle.terms.specs.Refusal.{number};
 
 // The table of refusals, SPECIFICATION 7. Its number 8 has four causes, which are told apart here; `number` gives the table's numbers.
-#[derive(Clone, Copy)]
+#[derive(Clone, Copy, Debug, PartialEq, Eq)]
 pub enum Cause {
     // a byte that the text form hasn't here, or the text stops
     Byte,
@@ -29,7 +29,7 @@ pub enum Cause {
     WordsLeft,
 }
 
-#[derive(Clone, Copy)]
+#[derive(Clone, Copy, Debug, PartialEq, Eq)]
 pub struct Refusal {
     pub cause: Cause,
     pub place: usize,

@@ -1,25 +1,23 @@
--- `terms::kind::terms_after` meets its contract: at each `return` the tests that led there say which case of `takes` holds.
-use mathlib.Core.Path.{sym, ◌∙◌}
+-- `terms::kind::terms_after` meets its contract: each arm says which case of `takes` holds.
+use mathlib.Core.Path.{◌≡◌, sym, ◌∙◌}
+use Prim.Native.Nat.{◌-◌}
 use native.Mathlib.Omega.{arith}
-use lib.ListN.{get_or-eq_default}
-use Rattle.terms.specs.Bounds.{edition_one, FIRST_UNKNOWN, UNKNOWN_WORDS}
+use lib.ListN.{get_or}
+use Rattle.std.proofs.Common.{rules}
+use Rattle.terms.specs.Bounds.{edition_one, FIRST_UNKNOWN, UNKNOWN_WORDS, FIRST_FUNCTOR}
 use Rattle.terms.specs.Kind.{takes, takes_none, takes_table, within-after}
 use Rattle.terms.proofs.kind.terms_after.Goals as goal
 
-pub returns-then-word-eq-MEMBER : goal.returns-then-word-eq-MEMBER
+pub returns-in-1 : goal.returns-in-1
 unfolding takes edition_one
-returns-then-word-eq-MEMBER c = rw c.if-word-eq-MEMBER.true
+returns-in-1 c = rw c.in-1.is
 
-pub returns-then-word-lt-FIRST_FUNCTOR : goal.returns-then-word-lt-FIRST_FUNCTOR
+pub returns-in-2000-to-65535 : goal.returns-in-2000-to-65535
 unfolding edition_one
-returns-then-word-lt-FIRST_FUNCTOR c = sym (takes_none edition_one _ c.if-word-eq-MEMBER.false c.if-word-lt-FIRST_FUNCTOR.true)
+returns-in-2000-to-65535 c =
+    let e : c.unwrap_or.result ≡ get_or c.args.arities.now (c.args.word - FIRST_FUNCTOR) 0 = search rules in
+    e ∙ sym (takes_table edition_one _ (λ e. omega arith) (within-after FIRST_UNKNOWN UNKNOWN_WORDS _ (omega arith)) (omega arith))
 
-pub returns-then-k-arities : goal.returns-then-k-arities
+pub returns-in_default : goal.returns-in_default
 unfolding edition_one
-returns-then-k-arities c = sym (takes_table edition_one _ c.if-word-eq-MEMBER.false (within-after FIRST_UNKNOWN UNKNOWN_WORDS _ (omega arith)) c.if-word-lt-FIRST_FUNCTOR.false)
-
-pub returns : goal.returns
-unfolding edition_one
-returns c =
-    sym (takes_table edition_one _ c.if-word-eq-MEMBER.false (within-after FIRST_UNKNOWN UNKNOWN_WORDS _ (omega arith)) c.if-word-lt-FIRST_FUNCTOR.false
-    ∙ get_or-eq_default c.args.arities.now 0 c.if-k-arities.false)
+returns-in_default c = sym (takes_none edition_one _ (λ e. omega arith) (omega arith))
