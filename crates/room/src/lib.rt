@@ -15,11 +15,7 @@ pub fn copy(room: &mut [u16], from: usize, n: usize, to: usize)
     requires { CopyParts room.old from n to }
     ensures { room.new ≡ put room.old to (seg room.old from n) }
 {
-    let mut j = 0;
-    while j < n {
-        room[to + j] = room[from + j];
-        j += 1;
-    }
+    room.copy_within(from..from + n, to);
 }
 
 // Copies all of `words` to the place `to` of the room.
@@ -27,9 +23,5 @@ pub fn copy_in(room: &mut [u16], to: usize, words: &[u16])
     requires { Within room.old to (length words.now) }
     ensures { room.new ≡ put room.old to words.now }
 {
-    let mut j = 0;
-    while j < words.len() {
-        room[to + j] = words[j];
-        j += 1;
-    }
+    room[to..to + words.len()].copy_from_slice(words);
 }

@@ -2,10 +2,10 @@
 use Prim.Native.Nat.{ℕ}
 use mathlib.Core.Path.{◌≡◌, sym, ◌∙◌}
 use mathlib.Core.List.{List}
-use mathlib.Core.Bool.{Bool, true, false, not}
+use mathlib.Core.Bool.{Bool, true, false}
 use lib.Dec.{eqb}
 use lib.ListN.{get_or}
-use borrow.Author.Tests.{eq-eqb, ne_eqb, not-true}
+use borrow.Author.Tests.{eq-eqb, ne_eqb}
 use Rattle.terms.specs.Bounds.{edition_one, FIRST_UNKNOWN, UNKNOWN_WORDS, EMPTY, MEMBER}
 use Rattle.terms.specs.Kind.{within}
 use Rattle.walks.specs.declared.occurrence.Occurrence.TheVariants.{Absent, Tail, Inside}
@@ -26,8 +26,8 @@ module _ (arities : List ℕ) (x : ℕ) (ws : List ℕ) (k : Tails) where
   unfolding meet_words meet_where
   met_nowhere e = rw e
 
-  pub met_absent : (found : Bool) → found ≡ holds x ws → not found ≡ true → Bind k ≡ meet_words edition_one arities x ws k
-  met_absent found e h = met_nowhere (absent_in_rest edition_one arities x ws 0 (sym e ∙ not-true found h))
+  pub met_absent : (found : Bool) → found ≡ holds x ws → found ≡ false → Bind k ≡ meet_words edition_one arities x ws k
+  met_absent found e h = met_nowhere (absent_in_rest edition_one arities x ws 0 (sym e ∙ h))
 
   pub met_as_tail : in_rest edition_one arities x ws 0 ≡ Tail → Postpone k ≡ meet_words edition_one arities x ws k
   unfolding meet_words meet_where

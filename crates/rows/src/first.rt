@@ -6,7 +6,7 @@ ghost use Rattle.rows.specs.First.{first_in, subject_in, header_in, rest_after, 
 use crate::header::Header;
 use crate::parts::Rest;
 use crate::step::{step_for, word_at};
-use crate::walk::{end_of_term, wide};
+use crate::walk::end_of_term;
 use room::layout::HEADER;
 use search::steps::Step;
 use terms::kind::is_unknown;
@@ -64,17 +64,12 @@ pub fn read_header(words: &[u16]) -> Header
     requires { length words.now ≡ 5 }
     ensures { result ≡ header_in words.now }
 {
-    let pending = wide(words[0]);
-    let pile = wide(words[1]);
-    let body = wide(words[2]);
-    let bindings = wide(words[3]);
-    let next = wide(words[4]);
     Header {
-        pending,
-        pile,
-        body,
-        bindings,
-        next,
+        pending: usize::from(words[0]),
+        pile: usize::from(words[1]),
+        body: usize::from(words[2]),
+        bindings: usize::from(words[3]),
+        next: usize::from(words[4]),
     }
 }
 

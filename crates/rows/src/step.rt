@@ -13,10 +13,7 @@ use walks::occurrence::{Occurrence, find_unknown};
 pub fn word_at(words: &[u16], place: usize) -> u16
     ensures { result ≡ get_or words.now place 0 }
 {
-    if place < words.len() {
-        return words[place];
-    }
-    0
+    words.get(place).copied().unwrap_or(0)
 }
 
 // The first word of the kernel.

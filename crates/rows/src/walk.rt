@@ -7,35 +7,20 @@ ghost use Rattle.rows.specs.Terms.Stripped.{kernel_at};
 ghost use Rattle.rows.specs.Terms.HeldWords.{holds};
 
 use terms::bounds::MEMBER;
+use terms::kind;
+use walks::walk::terms_end;
 
 pub fn wide(word: u16) -> usize
     ensures { result ≡ word }
 {
-    word as usize
+    usize::from(word)
 }
 
 // How many terms follow a word.
 pub fn terms_after(arities: &[u8], word: u16) -> usize
     ensures { (result ≡ takes edition_one arities.now word) × (result < 256) }
 {
-    terms::kind::terms_after(arities, word) as usize
-}
-
-// `end_of_term`, word by word: so many terms are due.
-fn walk_to_end(arities: &[u8], words: &[u16]) -> usize
-    requires { length words.now < 2 ^ 32 }
-    ensures { result ≡ term_end edition_one arities.now words.now }
-{
-    let mut place = 0;
-    let mut due = 1;
-    while 0 < due {
-        if words.len() <= place {
-            return place;
-        }
-        due = due - 1 + terms_after(arities, words[place]);
-        place += 1;
-    }
-    place
+    usize::from(kind::terms_after(arities, word))
 }
 
 // The place after the first term of the words, or their end where it does not end before. Many terms are one word, which needs no walk.
@@ -43,12 +28,10 @@ pub fn end_of_term(arities: &[u8], words: &[u16]) -> usize
     requires { length words.now < 2 ^ 32 }
     ensures { result ≡ term_end edition_one arities.now words.now }
 {
-    if 0 < words.len() {
-        if terms_after(arities, words[0]) == 0 {
-            return 1;
-        }
+    if 0 < words.len() && kind::terms_after(arities, words[0]) == 0 {
+        return 1;
     }
-    walk_to_end(arities, words)
+    terms_end(arities, words, 0, 1)
 }
 
 // The place of the kernel of the term that the words begin with.
@@ -56,33 +39,23 @@ pub fn place_of_kernel(arities: &[u8], words: &[u16]) -> usize
     requires { length words.now < 2 ^ 32 }
     ensures { result ≡ kernel_at edition_one arities.now words.now }
 {
-    let mut place = 0;
     let mut due = 0;
-    while place < words.len() {
+    for (place, word) in words.iter().enumerate() {
         if 0 < due {
-            due = due - 1 + terms_after(arities, words[place]);
-            place += 1;
+            due = due - 1 + usize::from(kind::terms_after(arities, *word));
         } else {
-            if words[place] != MEMBER {
+            if *word != MEMBER {
                 return place;
             }
             due = 1;
-            place += 1;
         }
     }
-    place
+    words.len()
 }
 
 // Whether x is one of the words.
 pub fn is_in(words: &[u16], x: u16) -> bool
     ensures { result ≡ holds x words.now }
 {
-    let mut i = 0;
-    while i < words.len() {
-        if words[i] == x {
-            return true;
-        }
-        i += 1;
-    }
-    false
+    words.contains(&x)
 }

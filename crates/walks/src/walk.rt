@@ -11,15 +11,16 @@ pub fn terms_end(arities: &[u8], words: &[u16], from: usize, terms: usize) -> us
     requires { from ≤ length words.now }
     ensures { result ≡ from + span edition_one arities.now (drop from words.now) terms }
 {
-    let mut end = from;
     let mut due = terms;
-    while 0 < due {
+    for end in from..words.len() {
+        if due == 0 {
+            return end;
+        }
         // more are due than words are left: a word lowers the counter by one at most
         if words.len() - end < due {
-            return words.len();
+            break;
         }
-        due = due - 1 + terms_after(arities, words[end]) as usize;
-        end += 1;
+        due = due - 1 + usize::from(terms_after(arities, words[end]));
     }
-    end
+    words.len()
 }

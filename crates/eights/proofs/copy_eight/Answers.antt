@@ -1,15 +1,25 @@
--- `eights::copy_eight`: the words read are those of the part, and what the two calls tell of them is told of it.
-use Rattle.eights.proofs.Eight.{copied, left}
+-- `eights::copy_eight`: the words read are those of the part, and what `contains` tells of them is told of it.
+use Prim.Native.Nat.{◌+◌, ◌-◌}
+use mathlib.Core.Path.{◌≡◌}
+use native.Mathlib.Omega.{arith}
+use Rattle.room.specs.Room.{seg}
+use Rattle.eights.proofs.Eight.{clear_told, copied, left}
 use Rattle.eights.proofs.copy_eight.Goals as goal
 
-pub returns-then-is_none : goal.returns-then-is_none
-returns-then-is_none c =
+pub returns-then-clear : goal.returns-then-clear
+unfolding seg
+returns-then-clear c =
     let v = c.args in
-    let both = copied v.room.now v.from v.x v.to c.requires.from_within c.is_none.ensures c.if-is_none.true c.put_eight.ensures in
-    record { value = both.0; room_after = both.1 }
+    let eight : v.from + 8 - v.from ≡ 8 = omega arith in
+    let read = rw eight at c.copy_from_slice.ensures.after in
+    let told = c.contains-clear.ensures.value in
+    record { value = clear_told v.room.now v.from v.x v.to read told; room_after = copied v.room.now v.from v.x v.to read told c.if-clear.true c.copy_in.ensures }
 
-pub returns : goal.returns
-returns c =
+pub returns-else-clear : goal.returns-else-clear
+unfolding seg
+returns-else-clear c =
     let v = c.args in
-    let both = left v.room.now v.from v.x v.to c.requires.from_within c.is_none.ensures c.if-is_none.false in
-    record { value = both.0; room_after = both.1 }
+    let eight : v.from + 8 - v.from ≡ 8 = omega arith in
+    let read = rw eight at c.copy_from_slice.ensures.after in
+    let told = c.contains-clear.ensures.value in
+    record { value = clear_told v.room.now v.from v.x v.to read told; room_after = left v.room.now v.from v.x v.to read told c.if-clear.false }

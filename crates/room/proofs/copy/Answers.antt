@@ -1,11 +1,11 @@
-use Rattle.room.proofs.Copying.{none_copied, word_moved, all_copied}
+use Rattle.std.proofs.Common.{◌≡◌, ◌+◌, ◌-◌, sym, ◌∙◌, arith}
+use Rattle.room.specs.Room.{seg, put-eq, length-seg}
 use Rattle.room.proofs.copy.Goals as goal
 
-pub loop-j-init : goal.loop-j-init
-loop-j-init c = none_copied _ _ _ _ _
-
-pub loop-j-preserved : goal.loop-j-preserved
-loop-j-preserved c = word_moved c.requires c.loop-j.invariant c.loop-j-test.true
-
 pub returns : goal.returns
-returns c = all_copied c.loop-j.invariant c.requires.from_within c.loop-j-test.false
+unfolding seg
+returns c =
+    let a = c.args in
+    let n : a.from + a.n - a.from ≡ a.n = omega arith in
+    let l = length-seg a.room.now a.from a.n c.requires.from_within in
+    rw n at c.copy_within.ensures.after ∙ sym (rw l at (put-eq a.room.now a.to (seg a.room.now a.from a.n) (rw l c.requires.to_within)))

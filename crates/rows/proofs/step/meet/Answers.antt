@@ -3,7 +3,7 @@ use mathlib.Core.Path.{sym, ◌∙◌}
 use Rattle.rows.proofs.step.meet.Goals as goal
 
 pub returns-then-not-is_in : goal.returns-then-not-is_in
-returns-then-not-is_in c = met_absent _ _ _ _ _ c.is_in.ensures c.if-not-is_in.true-raw
+returns-then-not-is_in c = met_absent _ _ _ _ _ c.is_in.ensures c.if-not-is_in.true
 
 pub returns-in-Absent : goal.returns-in-Absent
 returns-in-Absent c = met_nowhere _ _ _ _ (sym c.find_unknown.ensures ∙ c.in-Absent.is)

@@ -1,37 +1,46 @@
-use mathlib.Core.Path.{refl, sym, ◌∙◌}
+use mathlib.Core.Path.{sym, ◌∙◌}
+use Prim.Native.Nat.{◌+◌}
+use lib.ListN.{length}
 use native.Mathlib.Omega.{arith}
+use Rattle.std.proofs.Common.{length-take, length-drop}
+use Rattle.std.proofs.lemmas.Slice.{between_to_end}
 use Rattle.terms.specs.Bounds.{edition_one}
 use Rattle.walks.proofs.Walking.{rest-here, rest_step, rest_tail, rest_member, rest-arguments, rest_out}
+use Rattle.walks.proofs.occurrence.find_unknown.Goals.{then-due-gt0+else-word-unknown, else-due-gt0+else-word-unknown-2+else-word-ne-MEMBER}
 use Rattle.walks.proofs.occurrence.find_unknown.Goals as goal
-
-pub loop-place-init : goal.loop-place-init
-loop-place-init c = (refl, omega arith)
 
 pub returns-then-word-unknown : goal.returns-then-word-unknown
 returns-then-word-unknown c = sym (c.loop-place.invariant.0 ∙ rest-here edition_one _ _ _ c.loop-place-test.true _ _ c.if-due-gt0.true c.if-word-unknown.true)
 
-pub loop-place-preserved-then-due-gt0 : goal.loop-place-preserved-then-due-gt0
-loop-place-preserved-then-due-gt0 c = (
-  c.loop-place.invariant.0
-      ∙ rest_step edition_one _ _ _ c.loop-place-test.true c.terms_after.ensures _ _ c.if-due-gt0.true c.if-word-unknown.false,
-  omega arith,
-)
+pub loop-place-preserved : goal.loop-place-preserved
+loop-place-preserved c =
+    elim c.if-due-gt0.branch [
+      | then-due-gt0+else-word-unknown w ↦ (
+        rw w.due-is
+            (c.loop-place.invariant.0
+            ∙ rest_step edition_one _ _ _ c.loop-place-test.true (w.from.ensures ∙ w.terms_after.ensures) _ _ w.if-due-gt0.true w.if-word-unknown.false),
+        omega arith,
+      )
+      | else-due-gt0+else-word-unknown-2+else-word-ne-MEMBER w ↦ (
+        rw w.due-is
+            (c.loop-place.invariant.0
+            ∙ rest_member edition_one _ _ _ c.loop-place-test.true _ _ (omega arith) w.if-word-unknown-2.false w.if-word-ne-MEMBER.false),
+        omega arith,
+      )
+    ]
 
 pub returns-then-word-unknown-2 : goal.returns-then-word-unknown-2
 returns-then-word-unknown-2 c = sym (c.loop-place.invariant.0 ∙ rest_tail edition_one _ _ _ c.loop-place-test.true _ _ (omega arith) c.if-word-unknown-2.true)
 
-pub loop-place-preserved : goal.loop-place-preserved
-loop-place-preserved c =
-    (c.loop-place.invariant.0 ∙ rest_member edition_one _ _ _ c.loop-place-test.true _ _ (omega arith) c.if-word-unknown-2.false c.if-word-eq-MEMBER.true, omega arith)
-
 pub in_arguments-requires : goal.in_arguments-requires
-in_arguments-requires c = record { inside = omega arith; few = c.requires.few }
+in_arguments-requires c = simp (length-take, length-drop) (omega arith)
 
-pub returns-else-word-eq-MEMBER : goal.returns-else-word-eq-MEMBER
-returns-else-word-eq-MEMBER c =
-    c.in_arguments.ensures
+pub returns-then-word-ne-MEMBER : goal.returns-then-word-ne-MEMBER
+returns-then-word-ne-MEMBER c =
+    let words = c.args.words.now in
+    rw (between_to_end words (c.loop-place.place + 1) (length words) (omega arith)) at c.in_arguments.ensures
     ∙ sym (c.loop-place.invariant.0
-    ∙ rest-arguments edition_one _ _ _ c.loop-place-test.true c.terms_after-else-word-eq-MEMBER.ensures _ _ (omega arith) c.if-word-unknown-2.false c.if-word-eq-MEMBER.false)
+    ∙ rest-arguments edition_one _ _ _ c.loop-place-test.true c.terms_after-then-word-ne-MEMBER.ensures _ _ (omega arith) c.if-word-unknown-2.false c.if-word-ne-MEMBER.true)
 
 pub returns : goal.returns
 returns c = sym (c.loop-place.invariant.0 ∙ rest_out edition_one _ _ _ _ _ c.loop-place-test.false)
