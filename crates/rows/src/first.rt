@@ -47,15 +47,17 @@ pub fn subject_of(words: &[u16], at: usize, right: usize, end: usize) -> Subject
 {
     let l = word_at(words, 0);
     if is_unknown(l) {
-        let by = at + right;
-        let m = end - right;
-        return Subject { x: l, by, m };
-    }
-    let x = word_at(words, right);
-    Subject {
-        x,
-        by: at,
-        m: right,
+        Subject {
+            x: l,
+            by: at + right,
+            m: end - right,
+        }
+    } else {
+        Subject {
+            x: word_at(words, right),
+            by: at,
+            m: right,
+        }
     }
 }
 
@@ -78,16 +80,11 @@ pub fn rest_of(from: usize, header: Header, skip: usize) -> Rest
     requires { HeaderParts from header skip }
     ensures { result ≡ rest_after from header skip }
 {
-    let at = from + HEADER + skip;
-    let pending = header.pending - skip;
-    let pile = header.pile;
-    let bound = header.body - header.pending - pile;
-    let bindings = header.bindings;
     Rest {
-        at,
-        pending,
-        pile,
-        bound,
-        bindings,
+        at: from + HEADER + skip,
+        pending: header.pending - skip,
+        pile: header.pile,
+        bound: header.body - header.pending - header.pile,
+        bindings: header.bindings,
     }
 }

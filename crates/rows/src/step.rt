@@ -28,19 +28,13 @@ fn word_of_kernel(arities: &[u8], words: &[u16]) -> u16
 pub fn tails_by_words(left: u16, right: u16) -> Tails
     ensures { result ≡ tails_of edition_one left right }
 {
-    if is_unknown(left) {
-        if is_unknown(right) {
-            if left == right {
-                return Tails::Same;
-            }
-            return Tails::Different;
-        }
-        return Tails::Left;
+    match (is_unknown(left), is_unknown(right)) {
+        (true, true) if left == right => Tails::Same,
+        (true, true) => Tails::Different,
+        (true, false) => Tails::Left,
+        (false, true) => Tails::Right,
+        (false, false) => Tails::Neither,
     }
-    if is_unknown(right) {
-        return Tails::Right;
-    }
-    Tails::Neither
 }
 
 // x = t, where t is no unknown. Where x is none of the words, which is so most often, they need no walk.
@@ -67,16 +61,14 @@ fn compare(arities: &[u8], left: &[u16], right: &[u16]) -> Step
     if first != word_at(right, 0) {
         return Step::Dead;
     }
-    if first == EMPTY {
-        return Step::Drop;
-    }
-    if first == MEMBER {
-        return Step::Split(tails_by_words(
+    match first {
+        EMPTY => Step::Drop,
+        MEMBER => Step::Split(tails_by_words(
             word_of_kernel(arities, left),
             word_of_kernel(arities, right),
-        ));
+        )),
+        _ => Step::Decompose,
     }
-    Step::Decompose
 }
 
 pub fn step_for(arities: &[u8], left: &[u16], right: &[u16]) -> Step
@@ -85,27 +77,21 @@ pub fn step_for(arities: &[u8], left: &[u16], right: &[u16]) -> Step
 {
     let l = word_at(left, 0);
     let r = word_at(right, 0);
-    if is_unknown(l) {
-        if is_unknown(r) {
-            if l == r {
-                return Step::Drop;
-            }
-            return Step::Bind(Tails::Different);
-        }
-        return meet(
+    match (is_unknown(l), is_unknown(r)) {
+        (true, true) if l == r => Step::Drop,
+        (true, true) => Step::Bind(Tails::Different),
+        (true, false) => meet(
             arities,
             l,
             right,
             tails_by_words(l, word_of_kernel(arities, right)),
-        );
-    }
-    if is_unknown(r) {
-        return meet(
+        ),
+        (false, true) => meet(
             arities,
             r,
             left,
             tails_by_words(word_of_kernel(arities, left), r),
-        );
+        ),
+        (false, false) => compare(arities, left, right),
     }
-    compare(arities, left, right)
 }

@@ -1,25 +1,25 @@
 use Rattle.rows.proofs.StepTests.{tails-told}
 use Rattle.search.specs.Classify.{tails_by}
 use borrow.Author.Tests.{eq-eqb, ne_eqb}
-use mathlib.Core.Path.{refl, sym, ◌∙◌}
+use mathlib.Core.Path.{refl, sym}
 use Rattle.rows.proofs.step.tails_by_words.Goals as goal
 
-pub returns-then-left-right : goal.returns-then-left-right
+pub returns-in-true-true : goal.returns-in-true-true
 unfolding tails_by
-returns-then-left-right c = tails-told _ _ (sym c.is_unknown.ensures ∙ c.if-is_unknown.true) (sym c.is_unknown-then-is_unknown.ensures ∙ c.if-is_unknown-2.true) (eq-eqb _ _ c.if-left-right.true)
+returns-in-true-true c = tails-told _ _ (sym c.in-true-true.ensures) (sym c.in-true-true.ensures') (eq-eqb _ _ c.if-left-right.true)
 
-pub returns-then-is_unknown-2 : goal.returns-then-is_unknown-2
+pub returns-in-true-true-2 : goal.returns-in-true-true-2
 unfolding tails_by
-returns-then-is_unknown-2 c = tails-told _ _ (sym c.is_unknown.ensures ∙ c.if-is_unknown.true) (sym c.is_unknown-then-is_unknown.ensures ∙ c.if-is_unknown-2.true) (ne_eqb _ _ c.if-left-right.false)
+returns-in-true-true-2 c = tails-told _ _ (sym c.in-true-true.ensures) (sym c.in-true-true.ensures') (ne_eqb _ _ c.if-left-right.false)
 
-pub returns-then-is_unknown : goal.returns-then-is_unknown
+pub returns-in-true-false : goal.returns-in-true-false
 unfolding tails_by
-returns-then-is_unknown c = tails-told _ _ (sym c.is_unknown.ensures ∙ c.if-is_unknown.true) (sym c.is_unknown-then-is_unknown.ensures ∙ c.if-is_unknown-2.false) refl
+returns-in-true-false c = tails-told _ _ (sym c.in-true-false.ensures) (sym c.in-true-false.ensures') refl
 
-pub returns-then-is_unknown-3 : goal.returns-then-is_unknown-3
+pub returns-in-false-true : goal.returns-in-false-true
 unfolding tails_by
-returns-then-is_unknown-3 c = tails-told _ _ (sym c.is_unknown.ensures ∙ c.if-is_unknown.false) (sym c.is_unknown-2.ensures ∙ c.if-is_unknown-3.true) refl
+returns-in-false-true c = tails-told _ _ (sym c.in-false-true.ensures) (sym c.in-false-true.ensures') refl
 
-pub returns : goal.returns
+pub returns-in-false-false : goal.returns-in-false-false
 unfolding tails_by
-returns c = tails-told _ _ (sym c.is_unknown.ensures ∙ c.if-is_unknown.false) (sym c.is_unknown-2.ensures ∙ c.if-is_unknown-3.false) refl
+returns-in-false-false c = tails-told _ _ (sym c.in-false-false.ensures) (sym c.in-false-false.ensures') refl
