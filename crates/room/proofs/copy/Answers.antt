@@ -1,11 +1,17 @@
-use Rattle.std.proofs.Common.{◌≡◌, ◌+◌, ◌-◌, sym, ◌∙◌, arith}
-use Rattle.room.specs.Room.{seg, put-eq, length-seg}
+use Rattle.std.proofs.Common.{◌≡◌, ◌+◌, ◌-◌, sym, arith, ◌∙◌}
+use Rattle.std.specs.List.{copy_within}
+use mathlib.Core.List.{List}
+use Prim.Native.Nat.{ℕ}
+use Rattle.room.specs.Room.{seg, put, put-eq, length-seg}
+use Rattle.room.specs.Parts.{CopyParts}
 use Rattle.room.proofs.copy.Goals as goal
 
-pub returns : goal.returns
+copied : (l : List ℕ) (from n to : ℕ) → CopyParts l from n to → copy_within l from (from + n) to ≡ put l to (seg l from n)
 unfolding seg
-returns c =
-    let a = c.args in
-    let n : a.from + a.n - a.from ≡ a.n = omega arith in
-    let l = length-seg a.room.now a.from a.n c.requires.from_within in
-    rw n at c.copy_within.ensures.after ∙ sym (rw l at (put-eq a.room.now a.to (seg a.room.now a.from a.n) (rw l c.requires.to_within)))
+copied l from n to P =
+    let e : from + n - from ≡ n = omega arith in
+    let k = length-seg l from n P.from_within in
+    rw e (sym (rw k at (put-eq l to (seg l from n) (rw k P.to_within))))
+
+pub returns : goal.returns
+returns c = c.copy_within.ensures.after ∙ copied c.args.room.now c.args.from c.args.n c.args.to c.requires
