@@ -1,12 +1,9 @@
-// The new equations of a child's picks, with an unknown replaced.
+// The new equations of a child's picks, with an unknown replaced. A function answers how many words it writes, and None where they do not fit.
 ghost use Rattle.std.specs.Prelude.{◌++◌, ◌+◌, cond};
 ghost use Rattle.room.specs.Room.{seg};
 ghost use Rattle.room.specs.Replaced.{replaced};
 ghost use Rattle.rows.specs.Wrote.{Wrote};
 ghost use Rattle.choices.specs.Gathered.{member_piece, meeting_piece, equations_piece, SideParts, MeetParts};
-
-use replace::Copied;
-use rows::walk::wide;
 
 // The member whose place is noted at `at`, with the m words at `by` for each word x.
 fn side(
@@ -18,12 +15,12 @@ fn side(
     m: usize,
     to: usize,
     capacity: usize,
-) -> Copied
+) -> Option<usize>
     requires { SideParts room.old body at by m to capacity }
     ensures { Wrote room.old to capacity (replaced x (seg room.old by m) (member_piece room.old body at)) result room.new }
 {
-    let p = wide(room[at]) + 1;
-    let q = wide(room[at + 1]);
+    let p = usize::from(room[at]) + 1;
+    let q = usize::from(room[at + 1]);
     replace::replace(room, body + p, q - p, x, by, m, to, capacity)
 }
 
@@ -38,19 +35,13 @@ fn equation(
     m: usize,
     to: usize,
     capacity: usize,
-) -> Copied
+) -> Option<usize>
     requires { SideParts room.old body t by m to capacity × SideParts room.old body u by m to capacity }
     ensures { Wrote room.old to capacity (replaced x (seg room.old by m) (member_piece room.old body t ++ member_piece room.old body u)) result room.new }
 {
-    match side(room, body, t, x, by, m, to, capacity) {
-        Copied::Done(k) => {
-            match side(room, body, u, x, by, m, to + k, capacity - k) {
-                Copied::Done(j) => Copied::Done(k + j),
-                Copied::Full => Copied::Full,
-            }
-        }
-        Copied::Full => Copied::Full,
-    }
+    let k = side(room, body, t, x, by, m, to, capacity)?;
+    let j = side(room, body, u, x, by, m, to + k, capacity - k)?;
+    Some(k + j)
 }
 
 // The equation of a member and the other that it picked; turned, the other is on the left.
@@ -65,7 +56,7 @@ fn pair(
     m: usize,
     to: usize,
     capacity: usize,
-) -> Copied
+) -> Option<usize>
     requires { SideParts room.old body own by m to capacity × SideParts room.old body other by m to capacity }
     ensures { Wrote room.old to capacity (replaced x (seg room.old by m) (cond turned (member_piece room.old body other ++ member_piece room.old body own) (member_piece room.old body own ++ member_piece room.old body other))) result room.new }
 {
@@ -90,16 +81,15 @@ fn equations_of(
     m: usize,
     to: usize,
     capacity: usize,
-) -> Copied
+) -> Option<usize>
     requires { MeetParts room.old body owns n others count picks by m to capacity }
     ensures { Wrote room.old to capacity (replaced x (seg room.old by m) (meeting_piece room.old body owns picks turned n others count)) result room.new }
 {
-    let mut i = 0;
     let mut written = 0;
-    while i < n {
-        let pick = wide(room[picks + i]);
+    for i in 0..n {
+        let pick = usize::from(room[picks + i]);
         if pick < count {
-            match pair(
+            let k = pair(
                 room,
                 body,
                 turned,
@@ -110,20 +100,11 @@ fn equations_of(
                 m,
                 to + written,
                 capacity - written,
-            ) {
-                Copied::Done(k) => {
-                    written += k;
-                    i += 1;
-                }
-                Copied::Full => {
-                    return Copied::Full;
-                }
-            }
-        } else {
-            i += 1;
+            )?;
+            written += k;
         }
     }
-    Copied::Done(written)
+    Some(written)
 }
 
 // All new equations: those of the n t's picks, then those of the k u's.
@@ -140,33 +121,27 @@ pub fn equations(
     m: usize,
     to: usize,
     capacity: usize,
-) -> Copied
+) -> Option<usize>
     requires { MeetParts room.old body ts n us k picks by m to capacity × MeetParts room.old body us k ts n (picks + n) by m to capacity }
     ensures { Wrote room.old to capacity (replaced x (seg room.old by m) (equations_piece room.old body ts n us k picks)) result room.new }
 {
-    match equations_of(
+    let w = equations_of(
         room, body, false, ts, n, us, k, picks, x, by, m, to, capacity,
-    ) {
-        Copied::Done(w) => {
-            match equations_of(
-                room,
-                body,
-                true,
-                us,
-                k,
-                ts,
-                n,
-                picks + n,
-                x,
-                by,
-                m,
-                to + w,
-                capacity - w,
-            ) {
-                Copied::Done(v) => Copied::Done(w + v),
-                Copied::Full => Copied::Full,
-            }
-        }
-        Copied::Full => Copied::Full,
-    }
+    )?;
+    let v = equations_of(
+        room,
+        body,
+        true,
+        us,
+        k,
+        ts,
+        n,
+        picks + n,
+        x,
+        by,
+        m,
+        to + w,
+        capacity - w,
+    )?;
+    Some(w + v)
 }

@@ -3,7 +3,7 @@
 // A client's contracts cite `specs/Fitting.antt`, and `Replaced` and `Parts` of `room`.
 #![tactic(auto)]
 
-ghost use Rattle.std.specs.Prelude.{◌≡◌, min};
+ghost use Rattle.std.specs.Prelude.{◌≡◌};
 ghost use Rattle.room.specs.Room.{seg, put};
 ghost use Rattle.room.specs.Parts.{ReplaceParts};
 ghost use Rattle.room.specs.Replaced.{replaced};
@@ -11,21 +11,6 @@ ghost use Rattle.replace.specs.Fitting.{fitting, told};
 
 use eights::copy_before;
 use room::copy;
-
-fn smaller(a: usize, b: usize) -> usize
-    ensures { result ≡ min a b }
-{
-    if a < b { a } else { b }
-}
-
-// The answer of a replacement.
-#[derive(Clone, Copy)]
-pub enum Copied {
-    // All is written, in this many words.
-    Done(usize),
-    // The whole is longer than the capacity.
-    Full,
-}
 
 // `replace` of one word.
 fn replace_word(
@@ -36,7 +21,7 @@ fn replace_word(
     m: usize,
     to: usize,
     capacity: usize,
-) -> Copied
+) -> Option<usize>
     requires { ReplaceParts room.old from 1 by m to capacity }
     ensures value { result ≡ told capacity (replaced x (seg room.old by m) (seg room.old from 1)) }
     ensures room_after { room.new ≡ put room.old to (fitting x (seg room.old by m) capacity (seg room.old from 1)) }
@@ -44,22 +29,23 @@ fn replace_word(
     let w = room[from];
     if w == x {
         if capacity < m {
-            return Copied::Full;
+            return None;
         }
         copy(room, by, m, to);
-        return Copied::Done(m);
+        return Some(m);
     }
     if capacity < 1 {
-        return Copied::Full;
+        return None;
     }
     room[to] = w;
-    Copied::Done(1)
+    Some(1)
 }
 
 // `replace` of any number of words, for parts that are seldom one.
 //
 // A run of words that are not x is copied at one go, no longer than the capacity allows, so that a word costs one
 // comparison with x, and eight words one with the run's bound. It ends at the last word, at an x, or where the capacity does.
+// Kept: a turn of the loop takes a run and the x that ends it, so a `for` over the words, one word each turn, has another step.
 pub fn replace_all(
     room: &mut [u16],
     from: usize,
@@ -69,7 +55,7 @@ pub fn replace_all(
     m: usize,
     to: usize,
     capacity: usize,
-) -> Copied
+) -> Option<usize>
     requires { ReplaceParts room.old from n by m to capacity }
     ensures value { result ≡ told capacity (replaced x (seg room.old by m) (seg room.old from n)) }
     ensures room_after { room.new ≡ put room.old to (fitting x (seg room.old by m) capacity (seg room.old from n)) }
@@ -80,20 +66,20 @@ pub fn replace_all(
         let run = copy_before(
             room,
             from + read,
-            smaller(n - read, capacity - written),
+            (n - read).min(capacity - written),
             x,
             to + written,
         );
         read += run;
         written += run;
         if n <= read {
-            return Copied::Done(written);
+            return Some(written);
         }
         if room[from + read] != x {
-            return Copied::Full;
+            return None;
         }
         if capacity - written < m {
-            return Copied::Full;
+            return None;
         }
         copy(room, by, m, to + written);
         read += 1;
@@ -102,8 +88,8 @@ pub fn replace_all(
 }
 
 // Copies the n words at `from` to the place `to`, with the m words at `by` for each word x, in at most `capacity` words.
-// Where these do not suffice, what comes before the first word that does not fit is written, and the answer is Full. Many terms
-// are one word, which needs no loop.
+// Answers how many words they are. Where the capacity does not suffice, what comes before the first word that does not fit is
+// written, and the answer is None. Many terms are one word, which needs no loop.
 pub fn replace(
     room: &mut [u16],
     from: usize,
@@ -113,7 +99,7 @@ pub fn replace(
     m: usize,
     to: usize,
     capacity: usize,
-) -> Copied
+) -> Option<usize>
     requires { ReplaceParts room.old from n by m to capacity }
     ensures value { result ≡ told capacity (replaced x (seg room.old by m) (seg room.old from n)) }
     ensures room_after { room.new ≡ put room.old to (fitting x (seg room.old by m) capacity (seg room.old from n)) }

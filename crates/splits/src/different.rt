@@ -9,10 +9,9 @@ ghost use Rattle.tails.specs.Due.{ChildParts, ChildMade};
 
 use binding::bind::finish;
 use choices::sides::Sides;
-use replace::Copied;
 use room::layout::HEADER;
 use rows::first::{read_header, rest_of};
-use rows::parts::{Made, Rest, Sized, of_sized};
+use rows::parts::{Made, Rest};
 use rows::walk::is_in;
 use tails::bound_tail::bound;
 use tails::joined_members::tail_members;
@@ -71,7 +70,7 @@ fn bind_again(
     to: usize,
     size: usize,
     next: usize,
-) -> Sized
+) -> Option<()>
     requires { AgainParts arities.now room.old between x by m to size next }
     ensures { AgainMade arities.now room.old between x by m to size next (of_sized result) room.new }
 {
@@ -89,7 +88,7 @@ fn share(
     next: usize,
     size: usize,
     scratch: usize,
-) -> Copied
+) -> Option<usize>
     requires { ShareParts room.old joined next size scratch }
     ensures { ShareMade room.old joined s next size scratch result room.new }
 {
@@ -127,7 +126,7 @@ fn bind_twice(
     size: usize,
     next: usize,
     scratch: usize,
-) -> Sized
+) -> Option<()>
     requires { TwiceParts arities.now room.old from rest sides s u r m to size next scratch }
     ensures { TwiceMade arities.now room.old from rest sides s u r m to size next scratch (of_sized result) room.new }
 {
@@ -136,12 +135,10 @@ fn bind_twice(
     let value = first + stride + stride;
     let between = value + stride;
     let named = next + 1;
-    match bound(
+    bound(
         arities, room, from, rest, sides, s, first, u, between, size, named, scratch,
-    ) {
-        Sized::Live => bind_again(arities, room, between, r, value, m, to, size, named),
-        Sized::Large => Sized::Large,
-    }
+    )?;
+    bind_again(arities, room, between, r, value, m, to, size, named)
 }
 
 // The new unknown after U and T, then both bindings.
@@ -158,19 +155,15 @@ fn renew(
     size: usize,
     next: usize,
     scratch: usize,
-) -> Sized
+) -> Option<()>
     requires { RenewParts arities.now room.old from rest sides joined s r to size next scratch }
     ensures { RenewMade arities.now room.old from rest sides joined s r to size next scratch (of_sized result) room.new }
 {
     let u = joined.u + 1;
-    match share(room, joined, s, next, size, scratch) {
-        Copied::Done(m) => {
-            bind_twice(
-                arities, room, from, rest, sides, s, u, r, m, to, size, next, scratch,
-            )
-        }
-        Copied::Full => Sized::Large,
-    }
+    let m = share(room, joined, s, next, size, scratch)?;
+    bind_twice(
+        arities, room, from, rest, sides, s, u, r, m, to, size, next, scratch,
+    )
 }
 
 // Different unknowns.
@@ -202,7 +195,7 @@ pub fn different(
     if PATH_UNKNOWNS <= next {
         return Made::Names;
     }
-    of_sized(renew(
+    Made::from(renew(
         arities, room, from, rest, sides, joined, s, r, to, size, next, scratch,
     ))
 }

@@ -5,9 +5,8 @@ ghost use Rattle.tails.specs.Bound.{BoundMade, TailMade, BoundParts};
 use binding::bind::finish;
 use choices::equations::equations;
 use choices::sides::Sides;
-use replace::Copied;
 use room::layout::HEADER;
-use rows::parts::{Made, Rest, Sized, of_sized};
+use rows::parts::{Made, Rest};
 use rows::walk::is_in;
 
 // The new equations with x replaced by the m words at `by`, then the finish of the binding of x to them.
@@ -24,7 +23,7 @@ pub fn bound(
     size: usize,
     next: usize,
     scratch: usize,
-) -> Sized
+) -> Option<()>
     requires { BoundParts arities.now room.old from rest sides x by m to size next scratch }
     ensures { BoundMade arities.now room.old from rest sides x by m to size next scratch (of_sized result) room.new }
 {
@@ -33,7 +32,7 @@ pub fn bound(
     let picks = us + stride;
     let n = sides.n;
     let k = sides.m;
-    match equations(
+    let w = equations(
         room,
         from + HEADER,
         scratch,
@@ -46,10 +45,8 @@ pub fn bound(
         m,
         to + HEADER,
         size,
-    ) {
-        Copied::Done(w) => finish(arities, room, rest, x, by, m, to, w, size, next),
-        Copied::Full => Sized::Large,
-    }
+    )?;
+    finish(arities, room, rest, x, by, m, to, w, size, next)
 }
 
 // The same, or a dead end where x occurs in the words that it would be bound to.
@@ -74,7 +71,7 @@ pub fn bind_tail(
     if is_in(&room[by..end], x) {
         return Made::Dead;
     }
-    of_sized(bound(
+    Made::from(bound(
         arities, room, from, rest, sides, x, by, m, to, size, next, scratch,
     ))
 }

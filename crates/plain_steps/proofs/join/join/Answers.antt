@@ -60,4 +60,4 @@ returns c =
     let if1 = c.if-is_in.false in
     let if2 = c.if-next-ge-PATH_UNKNOWNS.false in
     let unknown_word_told = c.unknown_word.ensures in
-    rw c.of_sized.ensures (joined_live c.args.arities.now c.requires c.gather-m.ensures.value c.gather-m.ensures.room_after is_in_told if1 if2 (rw unknown_word_told at c.finish_pile.ensures))
+    rw c.from.ensures (joined_live c.args.arities.now c.requires c.gather-m.ensures.value c.gather-m.ensures.room_after is_in_told if1 if2 (rw unknown_word_told at c.finish_pile.ensures))
