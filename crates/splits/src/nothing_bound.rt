@@ -8,6 +8,7 @@ ghost use Rattle.splits.specs.KeptTails.{tails_piece, TailsParts, EntryParts, En
 use binding::keep::keep;
 use choices::equations::equations;
 use choices::sides::Sides;
+use replace::Replacement;
 use room::layout::HEADER;
 use rows::parts::Rest;
 use tails::joined_members::tail_members;
@@ -56,6 +57,7 @@ pub fn neither(
     let x = room[by];
     let n = sides.n;
     let k = sides.m;
+    let own = Replacement { x, by, m: 1 };
     let w = equations(
         room,
         from + HEADER,
@@ -64,9 +66,7 @@ pub fn neither(
         us,
         k,
         picks,
-        x,
-        by,
-        1,
+        own,
         to + HEADER,
         size,
     )?;
@@ -121,6 +121,7 @@ pub fn same(
     let x = room[by];
     let n = sides.n;
     let k = sides.m;
+    let own = Replacement { x, by, m: 1 };
     let w = equations(
         room,
         from + HEADER,
@@ -129,9 +130,7 @@ pub fn same(
         us,
         k,
         picks,
-        x,
-        by,
-        1,
+        own,
         to + HEADER,
         size,
     )?;
