@@ -1,4 +1,5 @@
 -- A pile in which x is none of the words, and a pile of no words: what its entries are, written without a walk.
+use Rattle.std.proofs.Common.{Some, None}
 use Prim.Native.Nat.{ℕ, ◌+◌, ◌-◌, ◌<◌, ◌≤◌}
 use mathlib.Core.Path.{◌≡◌, sym, ◌∙◌}
 use mathlib.Core.List.{List}
@@ -9,7 +10,6 @@ use borrow.Author.Tests.{not-true}
 use Rattle.room.specs.Room.{seg, put, length-seg, seg-zero}
 use Rattle.room.specs.Parts.{ReplaceParts, CopyParts, apart_part}
 use Rattle.room.specs.Replaced.{replaced, replaced-nil}
-use Rattle.replace.specs.declared.Copied.TheVariants.{Done, Full}
 use Rattle.terms.specs.Bounds.{edition_one}
 use Rattle.rows.specs.declared.parts.Part.{Part}
 use Rattle.rows.specs.declared.parts.Part.TheVariants.{Entries, Others}
@@ -19,7 +19,7 @@ use Rattle.rows.specs.Wrote.{Wrote, wrote_nothing, wrote_full, wrote_all}
 
 module _ (arities r : List ℕ) (x by m to capacity : ℕ) where
   pub none_written : (part : Part) (from : ℕ) {n : ℕ} → n ≡ 0
-      → Wrote r to capacity (replaced x (seg r by m) (selection edition_one arities part x (seg r from n))) (Done 0) r
+      → Wrote r to capacity (replaced x (seg r by m) (selection edition_one arities part x (seg r from n))) (Some 0) r
   none_written part from e = rw (e, seg-zero, selection-nil edition_one arities part x, replaced-nil) (wrote_nothing r to capacity)
 
 -- all words of the pile are copied
@@ -36,7 +36,7 @@ module _ (arities : List ℕ) {r₀ : List ℕ} {from n by m to capacity : ℕ} 
   unfolding seg
   absent = let k : from + n - from ≡ n = omega arith in rw k at (sym asked ∙ not-true c answer)
 
-  pub absent_entries : Wrote r₀ to capacity (replaced x (seg r₀ by m) (selection edition_one arities Entries x (seg r₀ from n))) (Done 0) r₀
+  pub absent_entries : Wrote r₀ to capacity (replaced x (seg r₀ by m) (selection edition_one arities Entries x (seg r₀ from n))) (Some 0) r₀
   absent_entries = rw (entries_absent edition_one arities x (seg r₀ from n) absent, replaced-nil) (wrote_nothing r₀ to capacity)
 
   all_others : replaced x (seg r₀ by m) (selection edition_one arities Others x (seg r₀ from n)) ≡ seg r₀ from n
@@ -45,9 +45,9 @@ module _ (arities : List ℕ) {r₀ : List ℕ} {from n by m to capacity : ℕ} 
   length-others : length (seg r₀ from n) ≡ n
   length-others = length-seg r₀ from n P.from_within
 
-  pub absent_full : capacity < n → Wrote r₀ to capacity (replaced x (seg r₀ by m) (selection edition_one arities Others x (seg r₀ from n))) Full r₀
+  pub absent_full : capacity < n → Wrote r₀ to capacity (replaced x (seg r₀ by m) (selection edition_one arities Others x (seg r₀ from n))) None r₀
   absent_full h = rw all_others (wrote_full r₀ to (seg r₀ from n) (omega (arith, length-others)))
 
   pub absent_others : n ≤ capacity → {r : List ℕ} → r ≡ put r₀ to (seg r₀ from n)
-      → Wrote r₀ to capacity (replaced x (seg r₀ by m) (selection edition_one arities Others x (seg r₀ from n))) (Done n) r
+      → Wrote r₀ to capacity (replaced x (seg r₀ by m) (selection edition_one arities Others x (seg r₀ from n))) (Some n) r
   absent_others h e = rw all_others (wrote_all (seg r₀ from n) length-others h e)

@@ -1,4 +1,5 @@
 -- The pieces of a binding written one after the other: what is written changes nothing of what they are read from.
+use Rattle.std.proofs.Common.{Option, Some, None}
 use Prim.Native.Nat.{ℕ, ◌+◌, ◌-◌, ◌^◌, ◌≤◌, ◌<◌}
 use mathlib.Core.Path.{◌≡◌, sym, ap, ◌∙◌}
 use mathlib.Core.List.{List, [], ◌∷◌, ◌++◌, append_assoc}
@@ -8,8 +9,6 @@ use Rattle.room.specs.Room.{seg, put, length-put, length-seg, put-put, put-more}
 use Rattle.room.specs.Parts.{ReplaceParts, CopyParts, apart_part, seg-put}
 use Rattle.room.specs.Replaced.{replaced}
 use Rattle.replace.specs.Fitting.{fitting, told, further}
-use Rattle.replace.specs.declared.Copied.{Copied}
-use Rattle.replace.specs.declared.Copied.TheVariants.{Done, Full}
 use Rattle.terms.specs.Bounds.{edition_one, FIRST_UNKNOWN}
 use Rattle.rows.specs.declared.parts.Rest.{Rest}
 use Rattle.rows.specs.declared.parts.Part.TheVariants.{Entries}
@@ -44,17 +43,17 @@ module _ {r₀ : List ℕ} {rest : Rest} {by m to capacity : ℕ} (P : BindParts
 
   -- ---- the pending equations, then the entries of x
 
-  module _ (arities : List ℕ) (x : ℕ) {a : Copied} {r : List ℕ}
+  module _ (arities : List ℕ) (x : ℕ) {a : Option ℕ} {r : List ℕ}
       (tells : a ≡ told capacity (replaced x (seg r₀ by m) (seg r₀ rest.at rest.pending)))
       (room : r ≡ put r₀ to (fitting x (seg r₀ by m) capacity (seg r₀ rest.at rest.pending))) where
     first : Wrote r₀ to capacity (replaced x (seg r₀ by m) (seg r₀ rest.at rest.pending)) a r
     first = wrote_replaced x (seg r₀ by m) (seg r₀ rest.at rest.pending) tells room
 
-    pub pending_full : a ≡ Full → Wrote r₀ to capacity (bound_pending edition_one arities r₀ rest x by m) Full r
+    pub pending_full : a ≡ None → Wrote r₀ to capacity (bound_pending edition_one arities r₀ rest x by m) None r
     unfolding bound_pending
     pending_full e = full_more _ (rw e at first)
 
-    module _ (k : ℕ) (e : a ≡ Done k) where
+    module _ (k : ℕ) (e : a ≡ Some k) where
       pub pending_within : k ≤ capacity
       pending_within = let w = rw e at first in omega (arith, done-fits w, done-length w)
 
@@ -63,7 +62,7 @@ module _ {r₀ : List ℕ} {rest : Rest} {by m to capacity : ℕ} (P : BindParts
           let l = wrote_length first in
           (pile_parts (bind_part P r l k pending_within), rw l P.small)
 
-      pub entries-written : {b : Copied} {r' : List ℕ}
+      pub entries-written : {b : Option ℕ} {r' : List ℕ}
           → Wrote r (to + k) (capacity - k) (replaced x (seg r by m) (selection edition_one arities Entries x (seg r (rest.at + rest.pending) rest.pile))) b r'
           → Wrote r₀ to capacity (bound_pending edition_one arities r₀ rest x by m) (further k b) r'
       unfolding bound_pending
@@ -79,7 +78,7 @@ module _ {r₀ : List ℕ} {rest : Rest} {by m to capacity : ℕ} (P : BindParts
       let b : List ℕ = seg r₀ (rest.at + rest.pending + rest.pile) rest.bound in
       omega (arith, length-append b ((x - FIRST_UNKNOWN) ∷ seg r₀ by m), length-seg r₀ (rest.at + rest.pending + rest.pile) rest.bound (omega (arith, P.rest_within)), length-seg r₀ by m P.by_within)
 
-  pub last_full : (x : ℕ) → capacity < rest.bound + 1 + m → Wrote r₀ to capacity (bound_bindings r₀ rest x by m) Full r₀
+  pub last_full : (x : ℕ) → capacity < rest.bound + 1 + m → Wrote r₀ to capacity (bound_bindings r₀ rest x by m) None r₀
   last_full x h = wrote_full r₀ to (bound_bindings r₀ rest x by m) (omega (arith, length_last x))
 
   module _ (h : rest.bound + 1 + m ≤ capacity) where
@@ -117,7 +116,7 @@ module _ {r₀ : List ℕ} {rest : Rest} {by m to capacity : ℕ} (P : BindParts
         abbrev start : List ℕ
         start = bindings ++ ((x - FIRST_UNKNOWN) ∷ [])
 
-        pub last_written : Wrote r₀ to capacity (bound_bindings r₀ rest x by m) (Done (rest.bound + 1 + m)) r₂
+        pub last_written : Wrote r₀ to capacity (bound_bindings r₀ rest x by m) (Some (rest.bound + 1 + m)) r₂
         unfolding bound_bindings
         last_written =
             let l = length-bindings in

@@ -1,4 +1,5 @@
 -- The loop over a pile's entries: some are read, and what was wanted of them is written.
+use Rattle.std.proofs.Common.{Option, Some, None}
 use Prim.Native.Nat.{ℕ, suc, ◌+◌, ◌-◌, ◌<◌, ◌≤◌}
 use mathlib.Core.Path.{◌≡◌, sym, ap, ◌∙◌}
 use mathlib.Core.List.{List, [], ◌∷◌, ◌++◌, append_assoc, append-nil}
@@ -10,8 +11,6 @@ use Rattle.room.specs.Room.{seg, put, length-put, length-seg, seg-zero, seg-cons
 use Rattle.room.specs.Parts.{ReplaceParts, apart_part, get_or-put, seg-put}
 use Rattle.room.specs.Replaced.{replaced, replaced-nil, replaced-append}
 use Rattle.replace.specs.Fitting.{fitting, told, further}
-use Rattle.replace.specs.declared.Copied.{Copied}
-use Rattle.replace.specs.declared.Copied.TheVariants.{Done, Full}
 use Rattle.terms.specs.Bounds.{edition_one}
 use Rattle.terms.specs.Laws.Walk.{span-le}
 use Rattle.rows.specs.declared.parts.Part.{Part}
@@ -24,7 +23,7 @@ pub record Passing (arities r₀ : List ℕ) (part : Part) (from n x by m to cap
   pub passed : read ≤ n
   pub done : List ℕ
   pub left : selection edition_one arities part x (seg r₀ from n) ≡ done ++ selection edition_one arities part x (seg r₀ (from + read) (n - read))
-  pub wrote : Wrote r₀ to capacity (replaced x (seg r₀ by m) done) (Done written) r
+  pub wrote : Wrote r₀ to capacity (replaced x (seg r₀ by m) done) (Some written) r
 
 pub record Numbers (r₀ : List ℕ) (from n to capacity : ℕ) (r : List ℕ) (read written : ℕ) : Type 0 where
   pub from_within : from + n ≤ length r₀
@@ -75,7 +74,7 @@ module _ {arities r₀ : List ℕ} {part : Part} {from n x by m to capacity : �
   unread-word h =
       rw S.wrote.room (get_or-put S.wrote.out r₀ (apart_part S.parts.from_apart (omega arith) (omega arith) (omega arith) (omega (arith, S.wrote.within))))
 
-  pub all_passed : n ≤ read → Wrote r₀ to capacity (replaced x ws (choice (seg r₀ from n))) (Done written) r
+  pub all_passed : n ≤ read → Wrote r₀ to capacity (replaced x ws (choice (seg r₀ from n))) (Some written) r
   unfolding selected
   all_passed h =
       let e : n - read ≡ 0 = omega arith in
@@ -143,7 +142,7 @@ module _ {arities r₀ : List ℕ} {part : Part} {from n x by m to capacity : �
       wrote = S.wrote;
     }
 
-    module _ (t : wants part (get_or r (from + read) 0) x ≡ true) {a : Copied} {r' : List ℕ}
+    module _ (t : wants part (get_or r (from + read) 0) x ≡ true) {a : Option ℕ} {r' : List ℕ}
         (tells : a ≡ told (capacity - written) (replaced x (seg r by m) (seg r (from + read) (e + 1))))
         (room : r' ≡ put r (to + written) (fitting x (seg r by m) (capacity - written) (seg r (from + read) (e + 1)))) where
       piece : Wrote r (to + written) (capacity - written) (replaced x ws (seg r₀ (from + read) size)) a r'
@@ -157,7 +156,7 @@ module _ {arities r₀ : List ℕ} {part : Part} {from n x by m to capacity : �
           let n' : choice (seg r₀ (from + read) (n - read)) ≡ seg r₀ (from + read) size ++ choice (seg r₀ (from + (read + size)) (n - (read + size))) = next ∙ rw t in
           S.left ∙ ap (λ (l : List ℕ). S.done ++ l) n' ∙ sym (append_assoc S.done (seg r₀ (from + read) size) (choice (seg r₀ (from + (read + size)) (n - (read + size)))))
 
-      pub entry-written : (k : ℕ) → a ≡ Done k → Passing arities r₀ part from n x by m to capacity r' (read + (e + 1)) (written + k)
+      pub entry-written : (k : ℕ) → a ≡ Some k → Passing arities r₀ part from n x by m to capacity r' (read + (e + 1)) (written + k)
       unfolding further
       entry-written k q = record {
         parts = S.parts;
@@ -167,7 +166,7 @@ module _ {arities r₀ : List ℕ} {part : Part} {from n x by m to capacity : �
         wrote = rw replaced-append (wrote_more S.wrote (rw q at piece));
       }
 
-      pub entry_full : a ≡ Full → Wrote r₀ to capacity (replaced x ws (choice (seg r₀ from n))) Full r'
+      pub entry_full : a ≡ None → Wrote r₀ to capacity (replaced x ws (choice (seg r₀ from n))) None r'
       unfolding further
       entry_full q =
           rw (left-more, replaced-append x ws (S.done ++ seg r₀ (from + read) size) (choice (seg r₀ (from + (read + size)) (n - (read + size)))), replaced-append x ws S.done (seg r₀ (from + read) size))

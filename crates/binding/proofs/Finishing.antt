@@ -1,4 +1,5 @@
 -- A child's row finished piece after piece, in the order of the code.
+use Rattle.std.proofs.Common.{Option, Some, None}
 use Prim.Native.Nat.{ℕ, ◌+◌, ◌-◌, ◌^◌, ◌≤◌, ◌<◌}
 use mathlib.Core.Path.{◌≡◌, sym, ◌∙◌}
 use mathlib.Core.List.{List, [], ◌++◌, append-nil}
@@ -8,8 +9,6 @@ use Rattle.room.specs.Room.{seg, put, Within}
 use Rattle.room.specs.Parts.{ReplaceParts}
 use Rattle.room.specs.Replaced.{replaced}
 use Rattle.room.specs.Layout.{HEADER}
-use Rattle.replace.specs.declared.Copied.{Copied}
-use Rattle.replace.specs.declared.Copied.TheVariants.{Done, Full}
 use Rattle.terms.specs.Bounds.{edition_one}
 use Rattle.rows.specs.declared.parts.Rest.{Rest}
 use Rattle.rows.specs.declared.parts.Made.{Made}
@@ -25,14 +24,14 @@ use Rattle.binding.proofs.BindingPieces.{Same, same_pile, same_last, unwritten, 
 
 -- nothing but the row is written
 module _ {r₀ : List ℕ} {rest : Rest} {by m to written size x next : ℕ} (F : FinishParts r₀ rest by m to written size x next) where
-  pub row_same : {p : List ℕ} {a : Copied} {r : List ℕ} → Wrote r₀ (to + HEADER + written) (size - written) p a r → Same r₀ r rest by m
+  pub row_same : {p : List ℕ} {a : Option ℕ} {r : List ℕ} → Wrote r₀ (to + HEADER + written) (size - written) p a r → Same r₀ r rest by m
   row_same w = unwritten F.parts (to + HEADER + written) w.out w.room (omega arith) (omega (arith, w.within, F.written_within))
 
   -- the next words of the row
-  pub row_next : {p : List ℕ} {k : ℕ} {r : List ℕ} → Wrote r₀ (to + HEADER + written) (size - written) p (Done k) r → FinishParts r rest by m to (written + k) size x next
+  pub row_next : {p : List ℕ} {k : ℕ} {r : List ℕ} → Wrote r₀ (to + HEADER + written) (size - written) p (Some k) r → FinishParts r rest by m to (written + k) size x next
   row_next {k = k} w = finish-part F (wrote_length w) k (omega (arith, done-fits w, done-length w))
 
-  pub row_sum : {p : List ℕ} {k : ℕ} {r : List ℕ} → Wrote r₀ (to + HEADER + written) (size - written) p (Done k) r → written + k ≤ size
+  pub row_sum : {p : List ℕ} {k : ℕ} {r : List ℕ} → Wrote r₀ (to + HEADER + written) (size - written) p (Some k) r → written + k ≤ size
   row_sum w = omega (arith, done-fits w, done-length w, F.written_within)
 
   pub others-parts : ReplaceParts r₀ (rest.at + rest.pending) rest.pile by m (to + HEADER + written) (size - written) × length r₀ < 2 ^ 32
@@ -41,12 +40,12 @@ module _ {r₀ : List ℕ} {rest : Rest} {by m to written size x next : ℕ} (F 
 -- ---- the bindings and the header
 
 module _ (pending pile : ℕ) {r₀ : List ℕ} {rest : Rest} {by m to size x next : ℕ} (F : FinishParts r₀ rest by m to (pending + pile) size x next) where
-  pub bindings_full : {r : List ℕ} → Wrote r₀ (to + HEADER + (pending + pile)) (size - (pending + pile)) (bound_bindings r₀ rest x by m) Full r
+  pub bindings_full : {r : List ℕ} → Wrote r₀ (to + HEADER + (pending + pile)) (size - (pending + pile)) (bound_bindings r₀ rest x by m) None r
       → Finished r₀ to (pending + pile) size (bound_bindings r₀ rest x by m) (header_of (bound_header rest pending pile m next)) Large r
   bindings_full w =
       rw append-nil at (finished_full [] (header_of (bound_header rest pending pile m next)) F.written_within w)
 
-  module _ {k : ℕ} {r : List ℕ} (w : Wrote r₀ (to + HEADER + (pending + pile)) (size - (pending + pile)) (bound_bindings r₀ rest x by m) (Done k) r) where
+  module _ {k : ℕ} {r : List ℕ} (w : Wrote r₀ (to + HEADER + (pending + pile)) (size - (pending + pile)) (bound_bindings r₀ rest x by m) (Some k) r) where
     abbrev header : Header
     header = record { pending = pending; pile = pile; body = pending + pile + k; bindings = rest.bindings + 1; next = next }
 
@@ -82,18 +81,18 @@ module _ (arities : List ℕ) {r₀ : List ℕ} {rest : Rest} {by m to pending s
   abbrev PileFinished : Made → List ℕ → Type 0
   PileFinished a r = Finished r₀ to pending size (others ++ bound_bindings r₀ rest x by m) (header_of (bound_header rest pending (length others) m next)) a r
 
-  as_others : {a : Copied} {r : List ℕ}
+  as_others : {a : Option ℕ} {r : List ℕ}
       → Wrote r₀ (to + HEADER + pending) (size - pending) (replaced x (seg r₀ by m) (selection edition_one arities Others x (seg r₀ (rest.at + rest.pending) rest.pile))) a r
       → Wrote r₀ (to + HEADER + pending) (size - pending) others a r
   unfolding bound_pile
   as_others w = w
 
   pub pile_full : {r : List ℕ}
-      → Wrote r₀ (to + HEADER + pending) (size - pending) (replaced x (seg r₀ by m) (selection edition_one arities Others x (seg r₀ (rest.at + rest.pending) rest.pile))) Full r → PileFinished Large r
+      → Wrote r₀ (to + HEADER + pending) (size - pending) (replaced x (seg r₀ by m) (selection edition_one arities Others x (seg r₀ (rest.at + rest.pending) rest.pile))) None r → PileFinished Large r
   pile_full w = finished_full (bound_bindings r₀ rest x by m) _ F.written_within (as_others w)
 
   module _ {k : ℕ} {r : List ℕ}
-      (w : Wrote r₀ (to + HEADER + pending) (size - pending) (replaced x (seg r₀ by m) (selection edition_one arities Others x (seg r₀ (rest.at + rest.pending) rest.pile))) (Done k) r) where
+      (w : Wrote r₀ (to + HEADER + pending) (size - pending) (replaced x (seg r₀ by m) (selection edition_one arities Others x (seg r₀ (rest.at + rest.pending) rest.pile))) (Some k) r) where
     pub pile_next : FinishParts r rest by m to (pending + k) size x next
     pile_next = row_next F w
 
@@ -110,11 +109,11 @@ module _ (arities : List ℕ) {r₀ : List ℕ} {rest : Rest} {by m to pending s
   abbrev AllFinished : Made → List ℕ → Type 0
   AllFinished a r = Finished r₀ to pending size (bound_body edition_one arities r₀ rest x by m) (header_of (bound_header rest (pending + length front) (length others) m next)) a r
 
-  pub all_full : {r : List ℕ} → Wrote r₀ (to + HEADER + pending) (size - pending) front Full r → AllFinished Large r
+  pub all_full : {r : List ℕ} → Wrote r₀ (to + HEADER + pending) (size - pending) front None r → AllFinished Large r
   unfolding bound_body
   all_full w = finished_full (others ++ bound_bindings r₀ rest x by m) _ F.written_within w
 
-  pub all_finished : {k : ℕ} {r : List ℕ} → Wrote r₀ (to + HEADER + pending) (size - pending) front (Done k) r → {a : Made} {r' : List ℕ}
+  pub all_finished : {k : ℕ} {r : List ℕ} → Wrote r₀ (to + HEADER + pending) (size - pending) front (Some k) r → {a : Made} {r' : List ℕ}
       → Finished r to (pending + k) size (bound_pile edition_one arities r rest x by m ++ bound_bindings r rest x by m)
       (header_of (bound_header rest (pending + k) (length (bound_pile edition_one arities r rest x by m)) m next)) a r' → AllFinished a r'
   unfolding bound_body

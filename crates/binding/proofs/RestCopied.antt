@@ -1,4 +1,5 @@
 -- The rest of a row copied with an entry more, and then its header, in the order of the code.
+use Rattle.std.proofs.Common.{Some, None}
 use Prim.Native.Nat.{ℕ, ◌+◌, ◌-◌, ◌≤◌, ◌<◌}
 use mathlib.Core.Path.{◌≡◌, sym, ap, ◌∙◌}
 use mathlib.Core.List.{List, [], ◌++◌, append_assoc, append-nil}
@@ -7,7 +8,6 @@ use lib.ListN.{length, length-append}
 use Rattle.room.specs.Room.{seg, put, Within, length-put, length-seg, put-put}
 use Rattle.room.specs.Parts.{CopyParts, apart_part, seg-put}
 use Rattle.room.specs.Layout.{HEADER}
-use Rattle.replace.specs.declared.Copied.TheVariants.{Done, Full}
 use Rattle.terms.specs.Bounds.{FIRST_UNKNOWN}
 use Rattle.rows.specs.declared.parts.Rest.{Rest}
 use Rattle.rows.specs.declared.parts.Made.TheVariants.{Large, Live}
@@ -46,7 +46,7 @@ module _ {r₀ : List ℕ} {rest : Rest} {by m to capacity : ℕ} (P : BindParts
   unfolding kept_piece
   length-kept = omega (arith, length-append front (entry ++ back), length-append entry back, length_front, length-entry, length_back)
 
-  pub keep_full : capacity < rest.pending + rest.pile + m + rest.bound → Wrote r₀ to capacity (kept_piece r₀ rest by m) Full r₀
+  pub keep_full : capacity < rest.pending + rest.pile + m + rest.bound → Wrote r₀ to capacity (kept_piece r₀ rest by m) None r₀
   keep_full h = wrote_full r₀ to (kept_piece r₀ rest by m) (omega (arith, length-kept))
 
   module _ (h : rest.pending + rest.pile + m + rest.bound ≤ capacity) where
@@ -89,7 +89,7 @@ module _ {r₀ : List ℕ} {rest : Rest} {by m to capacity : ℕ} (P : BindParts
         }
 
         pub kept-written : {r₃ : List ℕ} → r₃ ≡ put r₂ (to + (rest.pending + rest.pile) + m) (seg r₂ (rest.at + (rest.pending + rest.pile)) rest.bound)
-            → Wrote r₀ to capacity (kept_piece r₀ rest by m) (Done (rest.pending + rest.pile + m + rest.bound)) r₃
+            → Wrote r₀ to capacity (kept_piece r₀ rest by m) (Some (rest.pending + rest.pile + m + rest.bound)) r₃
         unfolding kept_piece
         kept-written {r₃} e₃ =
             let k = length-laid in
@@ -102,11 +102,11 @@ module _ {r₀ : List ℕ} {rest : Rest} {by m to capacity : ℕ} (P : BindParts
 -- ---- and the header
 
 module _ {r₀ : List ℕ} {rest : Rest} {by m to written size next : ℕ} (F : FinishParts r₀ rest by m to written size FIRST_UNKNOWN next) where
-  pub keep_large : {r : List ℕ} → Wrote r₀ (to + HEADER + written) (size - written) (kept_piece r₀ rest by m) Full r
+  pub keep_large : {r : List ℕ} → Wrote r₀ (to + HEADER + written) (size - written) (kept_piece r₀ rest by m) None r
       → Finished r₀ to written size (kept_piece r₀ rest by m) (header_of (kept_header rest written m next)) Large r
   keep_large w = rw append-nil at (finished_full [] (header_of (kept_header rest written m next)) F.written_within w)
 
-  module _ {k : ℕ} {r : List ℕ} (w : Wrote r₀ (to + HEADER + written) (size - written) (kept_piece r₀ rest by m) (Done k) r) where
+  module _ {k : ℕ} {r : List ℕ} (w : Wrote r₀ (to + HEADER + written) (size - written) (kept_piece r₀ rest by m) (Some k) r) where
     abbrev header : Header
     header = record { pending = written + rest.pending; pile = rest.pile + m; body = written + k; bindings = rest.bindings; next = next }
 

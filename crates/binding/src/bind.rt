@@ -1,4 +1,5 @@
-// A binding of x to a term, whose words stand somewhere in the room: what a child's row has after its new equations.
+// A binding of x to a term, whose words stand somewhere in the room: what a child's row has after its new equations. A function answers None where its
+// words do not fit.
 ghost use Rattle.std.specs.Prelude.{◌+◌, ◌-◌, ◌≤◌, ◌++◌, length};
 ghost use Rattle.terms.specs.Bounds.{edition_one, FIRST_UNKNOWN};
 ghost use Rattle.rows.specs.Wrote.{Wrote};
@@ -7,11 +8,11 @@ ghost use Rattle.rows.specs.Header.{header_of};
 ghost use Rattle.rows.specs.Made.{of_sized};
 ghost use Rattle.rows.specs.Finished.{Finished, bound_header};
 
-use crate::pile::{replace_others, replace_released};
-use replace::Copied;
+use crate::pile::replace_part;
+use replace::Replacement;
 use room::layout::HEADER;
 use rows::header::{Header, seal};
-use rows::parts::{Rest, Sized};
+use rows::parts::{Part, Rest};
 use terms::kind::unknown_number;
 
 // The pending equations, then the released entries, which are those of x.
@@ -19,98 +20,81 @@ fn bind_pending(
     arities: &[u8],
     room: &mut [u16],
     rest: Rest,
-    x: u16,
-    by: usize,
-    m: usize,
+    swap: Replacement,
     to: usize,
     capacity: usize,
-) -> Copied
-    requires { BindParts room.old rest by m to capacity }
-    ensures { Wrote room.old to capacity (bound_pending edition_one arities.now room.old rest x by m) result room.new }
+) -> Option<usize>
+    requires { BindParts room.old rest swap.by swap.m to capacity }
+    ensures { Wrote room.old to capacity (bound_pending edition_one arities.now room.old rest swap.x swap.by swap.m) result room.new }
 {
     let at = rest.at;
     let n = rest.pending;
-    match replace::replace_all(room, at, n, x, by, m, to, capacity) {
-        Copied::Done(k) => {
-            match replace_released(
-                arities,
-                room,
-                at + n,
-                rest.pile,
-                x,
-                by,
-                m,
-                to + k,
-                capacity - k,
-            ) {
-                Copied::Done(l) => Copied::Done(k + l),
-                Copied::Full => Copied::Full,
-            }
-        }
-        Copied::Full => Copied::Full,
-    }
+    let k = replace::replace_all(room, at, n, swap, to, capacity)?;
+    let l = replace_part(
+        arities,
+        room,
+        Part::Entries,
+        at + n,
+        rest.pile,
+        swap,
+        to + k,
+        capacity - k,
+    )?;
+    Some(k + l)
 }
 
 // The bindings as they are, then x's number and its value.
 fn bind_last(
     room: &mut [u16],
     rest: Rest,
-    x: u16,
-    by: usize,
-    m: usize,
+    swap: Replacement,
     to: usize,
     capacity: usize,
-) -> Copied
-    requires { BindParts room.old rest by m to capacity × FIRST_UNKNOWN ≤ x }
-    ensures { Wrote room.old to capacity (bound_bindings room.old rest x by m) result room.new }
+) -> Option<usize>
+    requires { BindParts room.old rest swap.by swap.m to capacity × FIRST_UNKNOWN ≤ swap.x }
+    ensures { Wrote room.old to capacity (bound_bindings room.old rest swap.x swap.by swap.m) result room.new }
 {
     let at = rest.at + rest.pending + rest.pile;
     let n = rest.bound;
-    if capacity < n + 1 + m {
-        return Copied::Full;
+    if capacity < n + 1 + swap.m {
+        return None;
     }
     room::copy(room, at, n, to);
-    room[to + n] = unknown_number(x);
-    room::copy(room, by, m, to + n + 1);
-    Copied::Done(n + 1 + m)
+    room[to + n] = unknown_number(swap.x);
+    room::copy(room, swap.by, swap.m, to + n + 1);
+    Some(n + 1 + swap.m)
 }
 
 // The last part of a child's row, of whose body the pending equations and the pile are written.
 fn finish_bindings(
     room: &mut [u16],
     rest: Rest,
-    x: u16,
-    by: usize,
-    m: usize,
+    swap: Replacement,
     to: usize,
     pending: usize,
     pile: usize,
     size: usize,
     next: usize,
-) -> Sized
-    requires { FinishParts room.old rest by m to (pending + pile) size x next }
-    ensures { Finished room.old to (pending + pile) size (bound_bindings room.old rest x by m) (header_of (bound_header rest pending pile m next)) (of_sized result) room.new }
+) -> Option<()>
+    requires { FinishParts room.old rest swap.by swap.m to (pending + pile) size swap.x next }
+    ensures { Finished room.old to (pending + pile) size (bound_bindings room.old rest swap.x swap.by swap.m) (header_of (bound_header rest pending pile swap.m next)) (of_sized result) room.new }
 {
     let start = pending + pile;
-    match bind_last(room, rest, x, by, m, to + HEADER + start, size - start) {
-        Copied::Done(k) => {
-            let bindings = rest.bindings + 1;
-            let body = start + k;
-            seal(
-                room,
-                to,
-                Header {
-                    pending,
-                    pile,
-                    body,
-                    bindings,
-                    next,
-                },
-            );
-            Sized::Live
-        }
-        Copied::Full => Sized::Large,
-    }
+    let k = bind_last(room, rest, swap, to + HEADER + start, size - start)?;
+    let bindings = rest.bindings + 1;
+    let body = start + k;
+    seal(
+        room,
+        to,
+        Header {
+            pending,
+            pile,
+            body,
+            bindings,
+            next,
+        },
+    );
+    Some(())
 }
 
 // The part of a child's row after the pending equations. They are written, so many words.
@@ -118,61 +102,50 @@ pub fn finish_pile(
     arities: &[u8],
     room: &mut [u16],
     rest: Rest,
-    x: u16,
-    by: usize,
-    m: usize,
+    swap: Replacement,
     to: usize,
     pending: usize,
     size: usize,
     next: usize,
-) -> Sized
-    requires { FinishParts room.old rest by m to pending size x next }
-    ensures { Finished room.old to pending size (bound_pile edition_one arities.now room.old rest x by m ++ bound_bindings room.old rest x by m) (header_of (bound_header rest pending (length (bound_pile edition_one arities.now room.old rest x by m)) m next)) (of_sized result) room.new }
+) -> Option<()>
+    requires { FinishParts room.old rest swap.by swap.m to pending size swap.x next }
+    ensures { Finished room.old to pending size (bound_pile edition_one arities.now room.old rest swap.x swap.by swap.m ++ bound_bindings room.old rest swap.x swap.by swap.m) (header_of (bound_header rest pending (length (bound_pile edition_one arities.now room.old rest swap.x swap.by swap.m)) swap.m next)) (of_sized result) room.new }
 {
     let at = rest.at + rest.pending;
-    match replace_others(
+    let k = replace_part(
         arities,
         room,
+        Part::Others,
         at,
         rest.pile,
-        x,
-        by,
-        m,
+        swap,
         to + HEADER + pending,
         size - pending,
-    ) {
-        Copied::Done(k) => finish_bindings(room, rest, x, by, m, to, pending, k, size, next),
-        Copied::Full => Sized::Large,
-    }
+    )?;
+    finish_bindings(room, rest, swap, to, pending, k, size, next)
 }
 
-// A child's row, of whose body the new equations are written, so many words: the rest of the parent's row with x bound to the m words at `by`.
+// A child's row, of whose body the new equations are written, so many words: the rest of the parent's row with x bound to the words of the swap.
 pub fn finish(
     arities: &[u8],
     room: &mut [u16],
     rest: Rest,
-    x: u16,
-    by: usize,
-    m: usize,
+    swap: Replacement,
     to: usize,
     written: usize,
     size: usize,
     next: usize,
-) -> Sized
-    requires { FinishParts room.old rest by m to written size x next }
-    ensures { Finished room.old to written size (bound_body edition_one arities.now room.old rest x by m) (header_of (bound_header rest (written + length (bound_pending edition_one arities.now room.old rest x by m)) (length (bound_pile edition_one arities.now room.old rest x by m)) m next)) (of_sized result) room.new }
+) -> Option<()>
+    requires { FinishParts room.old rest swap.by swap.m to written size swap.x next }
+    ensures { Finished room.old to written size (bound_body edition_one arities.now room.old rest swap.x swap.by swap.m) (header_of (bound_header rest (written + length (bound_pending edition_one arities.now room.old rest swap.x swap.by swap.m)) (length (bound_pile edition_one arities.now room.old rest swap.x swap.by swap.m)) swap.m next)) (of_sized result) room.new }
 {
-    match bind_pending(
+    let k = bind_pending(
         arities,
         room,
         rest,
-        x,
-        by,
-        m,
+        swap,
         to + HEADER + written,
         size - written,
-    ) {
-        Copied::Done(k) => finish_pile(arities, room, rest, x, by, m, to, written + k, size, next),
-        Copied::Full => Sized::Large,
-    }
+    )?;
+    finish_pile(arities, room, rest, swap, to, written + k, size, next)
 }

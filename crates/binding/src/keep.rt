@@ -7,10 +7,9 @@ ghost use Rattle.rows.specs.Made.{of_sized};
 ghost use Rattle.rows.specs.Finished.{Finished};
 ghost use Rattle.binding.specs.Keep.{kept_piece, kept_header};
 
-use replace::Copied;
 use room::layout::HEADER;
 use rows::header::{Header, seal};
-use rows::parts::{Rest, Sized};
+use rows::parts::Rest;
 
 // The pending equations and the pile, the m words at `by`, then the bindings.
 fn keep_rest(
@@ -20,7 +19,7 @@ fn keep_rest(
     m: usize,
     to: usize,
     capacity: usize,
-) -> Copied
+) -> Option<usize>
     requires { BindParts room.old rest by m to capacity }
     ensures { Wrote room.old to capacity (kept_piece room.old rest by m) result room.new }
 {
@@ -28,12 +27,12 @@ fn keep_rest(
     let n = rest.pending + rest.pile;
     let bound = rest.bound;
     if capacity < n + m + bound {
-        return Copied::Full;
+        return None;
     }
     room::copy(room, at, n, to);
     room::copy(room, by, m, to + n);
     room::copy(room, at + n, bound, to + n + m);
-    Copied::Done(n + m + bound)
+    Some(n + m + bound)
 }
 
 // A child's row, of whose body the new equations are written, so many words: the rest of the parent's row, with the m words at `by` at the end of its pile.
@@ -46,29 +45,25 @@ pub fn keep(
     written: usize,
     size: usize,
     next: usize,
-) -> Sized
+) -> Option<()>
     requires { FinishParts room.old rest by m to written size FIRST_UNKNOWN next }
     ensures { Finished room.old to written size (kept_piece room.old rest by m) (header_of (kept_header rest written m next)) (of_sized result) room.new }
 {
-    match keep_rest(room, rest, by, m, to + HEADER + written, size - written) {
-        Copied::Done(k) => {
-            let pending = written + rest.pending;
-            let pile = rest.pile + m;
-            let body = written + k;
-            let bindings = rest.bindings;
-            seal(
-                room,
-                to,
-                Header {
-                    pending,
-                    pile,
-                    body,
-                    bindings,
-                    next,
-                },
-            );
-            Sized::Live
-        }
-        Copied::Full => Sized::Large,
-    }
+    let k = keep_rest(room, rest, by, m, to + HEADER + written, size - written)?;
+    let pending = written + rest.pending;
+    let pile = rest.pile + m;
+    let body = written + k;
+    let bindings = rest.bindings;
+    seal(
+        room,
+        to,
+        Header {
+            pending,
+            pile,
+            body,
+            bindings,
+            next,
+        },
+    );
+    Some(())
 }

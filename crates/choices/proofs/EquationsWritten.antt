@@ -1,4 +1,5 @@
 -- The new equations written one after the other.
+use Rattle.std.proofs.Common.{Option, Some, None}
 use Prim.Native.Nat.{ℕ, ◌+◌, ◌-◌, ◌<◌, ◌≤◌}
 use mathlib.Core.Path.{◌≡◌, sym, ap, ◌∙◌}
 use mathlib.Core.List.{List, [], ◌++◌, append_assoc, append-nil}
@@ -11,8 +12,6 @@ use Rattle.room.specs.Room.{seg, put, length-put}
 use Rattle.room.specs.Parts.{ReplaceParts, apart_part, get_or-put, seg-put}
 use Rattle.room.specs.Replaced.{replaced, replaced-nil, replaced-append}
 use Rattle.replace.specs.Fitting.{fitting, told, further}
-use Rattle.replace.specs.declared.Copied.{Copied}
-use Rattle.replace.specs.declared.Copied.TheVariants.{Done, Full}
 use Rattle.rows.specs.Wrote.{Wrote, wrote_nothing, wrote_replaced, wrote_more, wrote_length, full_more, done-fits, done-length}
 use Rattle.choices.specs.Gathered.{gathered, gathered_none, gathered_next, member_piece, meets_piece, meeting_piece, SideParts, MeetParts}
 
@@ -28,7 +27,7 @@ module _ {l : List ℕ} {body at by m to capacity : ℕ} (P : SideParts l body a
     by_apart = P.by_apart;
   }
 
-  pub side-written : (x : ℕ) {a : Copied} {r : List ℕ} → a ≡ told capacity (replaced x (seg l by m) (seg l (body + (p + 1)) (q - (p + 1))))
+  pub side-written : (x : ℕ) {a : Option ℕ} {r : List ℕ} → a ≡ told capacity (replaced x (seg l by m) (seg l (body + (p + 1)) (q - (p + 1))))
       → r ≡ put l to (fitting x (seg l by m) capacity (seg l (body + (p + 1)) (q - (p + 1)))) → Wrote l to capacity (replaced x (seg l by m) (member_piece l body at)) a r
   unfolding member_piece
   side-written x e k =
@@ -74,18 +73,18 @@ module _ {l : List ℕ} {body t u by m to capacity : ℕ} (P : SideParts l body 
   abbrev value : List ℕ
   value = seg l by m
 
-  pub equation_full : {r : List ℕ} → Wrote l to capacity (replaced x value (member_piece l body t)) Full r
-      → Wrote l to capacity (replaced x value (member_piece l body t ++ member_piece l body u)) Full r
+  pub equation_full : {r : List ℕ} → Wrote l to capacity (replaced x value (member_piece l body t)) None r
+      → Wrote l to capacity (replaced x value (member_piece l body t ++ member_piece l body u)) None r
   equation_full w = rw replaced-append (full_more _ w)
 
-  module _ {k : ℕ} {r : List ℕ} (w : Wrote l to capacity (replaced x value (member_piece l body t)) (Done k) r) where
+  module _ {k : ℕ} {r : List ℕ} (w : Wrote l to capacity (replaced x value (member_piece l body t)) (Some k) r) where
     pub first-within : k ≤ capacity
     first-within = omega (arith, done-fits w, done-length w)
 
     pub second_parts : SideParts r body u by m (to + k) (capacity - k)
     second_parts = side_after P.1 r w.out to w.room (omega arith) (omega (arith, w.within)) k first-within
 
-    pub equation-written : {a : Copied} {r' : List ℕ} → Wrote r (to + k) (capacity - k) (replaced x (seg r by m) (member_piece r body u)) a r'
+    pub equation-written : {a : Option ℕ} {r' : List ℕ} → Wrote r (to + k) (capacity - k) (replaced x (seg r by m) (member_piece r body u)) a r'
         → Wrote l to capacity (replaced x value (member_piece l body t ++ member_piece l body u)) (further k a) r'
     equation-written v =
         let s = same_value P.1 r w.out to w.room (omega arith) (omega (arith, w.within)) in
@@ -130,7 +129,7 @@ pub record Meeting (r₀ : List ℕ) (body : ℕ) (turned : Bool) (owns n others
   pub before : i ≤ n
   pub done : List ℕ
   pub left : meeting_piece r₀ body owns picks turned n others count ≡ done ++ gathered (meets_piece r₀ body owns picks turned others count) (n - i) i
-  pub wrote : Wrote r₀ to capacity (replaced x (seg r₀ by m) done) (Done written) r
+  pub wrote : Wrote r₀ to capacity (replaced x (seg r₀ by m) done) (Some written) r
 
 pub none_met : {r₀ : List ℕ} {body : ℕ} (turned : Bool) {owns n others count picks : ℕ} (x : ℕ) {by m to capacity : ℕ}
     → MeetParts r₀ body owns n others count picks by m to capacity → Meeting r₀ body turned owns n others count picks x by m to capacity r₀ 0 0
@@ -168,7 +167,7 @@ module _ {r₀ : List ℕ} {body : ℕ} {turned : Bool} {owns n others count pic
     long = wrote_length S.wrote;
   }
 
-  pub all-met : n ≤ i → Wrote r₀ to capacity (replaced x (seg r₀ by m) (meeting_piece r₀ body owns picks turned n others count)) (Done written) r
+  pub all-met : n ≤ i → Wrote r₀ to capacity (replaced x (seg r₀ by m) (meeting_piece r₀ body owns picks turned n others count)) (Some written) r
   all-met h =
       let z = gathered_none one (n - i) i (omega arith) in
       let e : meeting_piece r₀ body owns picks turned n others count ≡ S.done = S.left ∙ rw z (append-nil S.done) in
@@ -207,7 +206,7 @@ module _ {r₀ : List ℕ} {body : ℕ} {turned : Bool} {owns n others count pic
             side_after other_side r S.wrote.out to S.wrote.room (omega arith) within written w,
           )
 
-      module _ {a : Copied} {r' : List ℕ}
+      module _ {a : Option ℕ} {r' : List ℕ}
           (v : Wrote r (to + written) (capacity - written) (replaced x (seg r by m) (cond turned (member_piece r body (others + d) ++ member_piece r body (owns + i)) (member_piece r body (owns + i) ++ member_piece r body (others + d)))) a r') where
         piece : Wrote r (to + written) (capacity - written) (replaced x (seg r₀ by m) (one i)) a r'
         unfolding meets_piece
@@ -223,7 +222,7 @@ module _ {r₀ : List ℕ} {body : ℕ} {turned : Bool} {owns n others count pic
             S.left ∙ ap (λ (l : List ℕ). S.done ++ l) (gathered_next one n i h)
             ∙ sym (append_assoc S.done (one i) (gathered one (n - (i + 1)) (i + 1)))
 
-        pub pair-met : (k : ℕ) → a ≡ Done k → Meeting r₀ body turned owns n others count picks x by m to capacity r' (i + 1) (written + k)
+        pub pair-met : (k : ℕ) → a ≡ Some k → Meeting r₀ body turned owns n others count picks x by m to capacity r' (i + 1) (written + k)
         unfolding further
         pair-met k q = record {
           parts = S.parts;
@@ -233,7 +232,7 @@ module _ {r₀ : List ℕ} {body : ℕ} {turned : Bool} {owns n others count pic
           wrote = rw replaced-append (wrote_more S.wrote (rw q at piece));
         }
 
-        pub pair_full : a ≡ Full → Wrote r₀ to capacity (replaced x (seg r₀ by m) (meeting_piece r₀ body owns picks turned n others count)) Full r'
+        pub pair_full : a ≡ None → Wrote r₀ to capacity (replaced x (seg r₀ by m) (meeting_piece r₀ body owns picks turned n others count)) None r'
         unfolding further
         pair_full q =
             rw (left-more, replaced-append x (seg r₀ by m) (S.done ++ one i) (gathered one (n - (i + 1)) (i + 1)), replaced-append x (seg r₀ by m) S.done (one i))

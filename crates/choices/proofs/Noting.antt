@@ -77,11 +77,12 @@ module _ {arities r₀ : List ℕ} {body first end to : ℕ} {r : List ℕ} {pla
 
   -- what is left where the words stop
   pub note_last : end ≤ place → (n + 1 ≡ length (noted edition_one arities (seg r₀ (body + first) (end - first)) 0 first))
-      × (set r (to + n) place ≡ put r₀ to (noted edition_one arities (seg r₀ (body + first) (end - first)) 0 first))
+      × (set r (to + n) end ≡ put r₀ to (noted edition_one arities (seg r₀ (body + first) (end - first)) 0 first))
   note_last h =
       let z : end - place ≡ 0 = omega arith in
-      let e : noted edition_one arities (seg r₀ (body + first) (end - first)) 0 first ≡ S.done ++ (place ∷ []) = S.left ∙ rw (z, seg-zero, noted-out) in
-      rw e (sym (length-next place), noted-next place)
+      let p : place ≡ end = omega (arith, S.before) in
+      let e : noted edition_one arities (seg r₀ (body + first) (end - first)) 0 first ≡ S.done ++ (end ∷ []) = S.left ∙ rw (z, seg-zero, noted-out) (ap (λ (v : ℕ). S.done ++ (v ∷ [])) p) in
+      rw e (sym (length-next end), noted-next end)
 
   module _ (h : place < end) where
     word_is : word ≡ get_or r₀ (body + place) 0

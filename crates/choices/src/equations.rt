@@ -1,30 +1,27 @@
-// The new equations of a child's picks, with an unknown replaced.
+// The new equations of a child's picks, with an unknown replaced. A function answers how many words it writes, and None where they do not fit.
 ghost use Rattle.std.specs.Prelude.{◌++◌, ◌+◌, cond};
 ghost use Rattle.room.specs.Room.{seg};
 ghost use Rattle.room.specs.Replaced.{replaced};
 ghost use Rattle.rows.specs.Wrote.{Wrote};
 ghost use Rattle.choices.specs.Gathered.{member_piece, meeting_piece, equations_piece, SideParts, MeetParts};
 
-use replace::Copied;
-use rows::walk::wide;
+use replace::Replacement;
 
-// The member whose place is noted at `at`, with the m words at `by` for each word x.
+// The member whose place is noted at `at`, with the words of the swap for each x of it.
 fn side(
     room: &mut [u16],
     body: usize,
     at: usize,
-    x: u16,
-    by: usize,
-    m: usize,
+    swap: Replacement,
     to: usize,
     capacity: usize,
-) -> Copied
-    requires { SideParts room.old body at by m to capacity }
-    ensures { Wrote room.old to capacity (replaced x (seg room.old by m) (member_piece room.old body at)) result room.new }
+) -> Option<usize>
+    requires { SideParts room.old body at swap.by swap.m to capacity }
+    ensures { Wrote room.old to capacity (replaced swap.x (seg room.old swap.by swap.m) (member_piece room.old body at)) result room.new }
 {
-    let p = wide(room[at]) + 1;
-    let q = wide(room[at + 1]);
-    replace::replace(room, body + p, q - p, x, by, m, to, capacity)
+    let p = usize::from(room[at]) + 1;
+    let q = usize::from(room[at + 1]);
+    replace::replace(room, body + p, q - p, swap, to, capacity)
 }
 
 // Two members, one after the other.
@@ -33,24 +30,16 @@ fn equation(
     body: usize,
     t: usize,
     u: usize,
-    x: u16,
-    by: usize,
-    m: usize,
+    swap: Replacement,
     to: usize,
     capacity: usize,
-) -> Copied
-    requires { SideParts room.old body t by m to capacity × SideParts room.old body u by m to capacity }
-    ensures { Wrote room.old to capacity (replaced x (seg room.old by m) (member_piece room.old body t ++ member_piece room.old body u)) result room.new }
+) -> Option<usize>
+    requires { SideParts room.old body t swap.by swap.m to capacity × SideParts room.old body u swap.by swap.m to capacity }
+    ensures { Wrote room.old to capacity (replaced swap.x (seg room.old swap.by swap.m) (member_piece room.old body t ++ member_piece room.old body u)) result room.new }
 {
-    match side(room, body, t, x, by, m, to, capacity) {
-        Copied::Done(k) => {
-            match side(room, body, u, x, by, m, to + k, capacity - k) {
-                Copied::Done(j) => Copied::Done(k + j),
-                Copied::Full => Copied::Full,
-            }
-        }
-        Copied::Full => Copied::Full,
-    }
+    let k = side(room, body, t, swap, to, capacity)?;
+    let j = side(room, body, u, swap, to + k, capacity - k)?;
+    Some(k + j)
 }
 
 // The equation of a member and the other that it picked; turned, the other is on the left.
@@ -60,19 +49,17 @@ fn pair(
     turned: bool,
     own: usize,
     other: usize,
-    x: u16,
-    by: usize,
-    m: usize,
+    swap: Replacement,
     to: usize,
     capacity: usize,
-) -> Copied
-    requires { SideParts room.old body own by m to capacity × SideParts room.old body other by m to capacity }
-    ensures { Wrote room.old to capacity (replaced x (seg room.old by m) (cond turned (member_piece room.old body other ++ member_piece room.old body own) (member_piece room.old body own ++ member_piece room.old body other))) result room.new }
+) -> Option<usize>
+    requires { SideParts room.old body own swap.by swap.m to capacity × SideParts room.old body other swap.by swap.m to capacity }
+    ensures { Wrote room.old to capacity (replaced swap.x (seg room.old swap.by swap.m) (cond turned (member_piece room.old body other ++ member_piece room.old body own) (member_piece room.old body own ++ member_piece room.old body other))) result room.new }
 {
     if turned {
-        return equation(room, body, other, own, x, by, m, to, capacity);
+        return equation(room, body, other, own, swap, to, capacity);
     }
-    equation(room, body, own, other, x, by, m, to, capacity)
+    equation(room, body, own, other, swap, to, capacity)
 }
 
 // The equations of one side's n picks: the members noted at `owns` with those of the `count` noted at `others` that they picked.
@@ -85,45 +72,31 @@ fn equations_of(
     others: usize,
     count: usize,
     picks: usize,
-    x: u16,
-    by: usize,
-    m: usize,
+    swap: Replacement,
     to: usize,
     capacity: usize,
-) -> Copied
-    requires { MeetParts room.old body owns n others count picks by m to capacity }
-    ensures { Wrote room.old to capacity (replaced x (seg room.old by m) (meeting_piece room.old body owns picks turned n others count)) result room.new }
+) -> Option<usize>
+    requires { MeetParts room.old body owns n others count picks swap.by swap.m to capacity }
+    ensures { Wrote room.old to capacity (replaced swap.x (seg room.old swap.by swap.m) (meeting_piece room.old body owns picks turned n others count)) result room.new }
 {
-    let mut i = 0;
     let mut written = 0;
-    while i < n {
-        let pick = wide(room[picks + i]);
+    for i in 0..n {
+        let pick = usize::from(room[picks + i]);
         if pick < count {
-            match pair(
+            let k = pair(
                 room,
                 body,
                 turned,
                 owns + i,
                 others + pick,
-                x,
-                by,
-                m,
+                swap,
                 to + written,
                 capacity - written,
-            ) {
-                Copied::Done(k) => {
-                    written += k;
-                    i += 1;
-                }
-                Copied::Full => {
-                    return Copied::Full;
-                }
-            }
-        } else {
-            i += 1;
+            )?;
+            written += k;
         }
     }
-    Copied::Done(written)
+    Some(written)
 }
 
 // All new equations: those of the n t's picks, then those of the k u's.
@@ -135,38 +108,26 @@ pub fn equations(
     us: usize,
     k: usize,
     picks: usize,
-    x: u16,
-    by: usize,
-    m: usize,
+    swap: Replacement,
     to: usize,
     capacity: usize,
-) -> Copied
-    requires { MeetParts room.old body ts n us k picks by m to capacity × MeetParts room.old body us k ts n (picks + n) by m to capacity }
-    ensures { Wrote room.old to capacity (replaced x (seg room.old by m) (equations_piece room.old body ts n us k picks)) result room.new }
+) -> Option<usize>
+    requires { MeetParts room.old body ts n us k picks swap.by swap.m to capacity × MeetParts room.old body us k ts n (picks + n) swap.by swap.m to capacity }
+    ensures { Wrote room.old to capacity (replaced swap.x (seg room.old swap.by swap.m) (equations_piece room.old body ts n us k picks)) result room.new }
 {
-    match equations_of(
-        room, body, false, ts, n, us, k, picks, x, by, m, to, capacity,
-    ) {
-        Copied::Done(w) => {
-            match equations_of(
-                room,
-                body,
-                true,
-                us,
-                k,
-                ts,
-                n,
-                picks + n,
-                x,
-                by,
-                m,
-                to + w,
-                capacity - w,
-            ) {
-                Copied::Done(v) => Copied::Done(w + v),
-                Copied::Full => Copied::Full,
-            }
-        }
-        Copied::Full => Copied::Full,
-    }
+    let w = equations_of(room, body, false, ts, n, us, k, picks, swap, to, capacity)?;
+    let v = equations_of(
+        room,
+        body,
+        true,
+        us,
+        k,
+        ts,
+        n,
+        picks + n,
+        swap,
+        to + w,
+        capacity - w,
+    )?;
+    Some(w + v)
 }

@@ -21,14 +21,12 @@ pub fn note_members(
     ensures result_value { result + 1 ≡ length (noted edition_one arities.now (seg room.old (body + first) (end - first)) 0 first) }
     ensures room_after { room.new ≡ put room.old to (noted edition_one arities.now (seg room.old (body + first) (end - first)) 0 first) }
 {
-    let mut place = first;
     let mut due = 0;
     let mut n = 0;
-    while place < end {
+    for place in first..end {
         let word = room[body + place];
         if 0 < due {
             due = due - 1 + terms_after(arities, word);
-            place += 1;
         } else {
             room[to + n] = place as u16;
             if word != MEMBER {
@@ -36,9 +34,8 @@ pub fn note_members(
             }
             n += 1;
             due = 1;
-            place += 1;
         }
     }
-    room[to + n] = place as u16;
+    room[to + n] = end as u16;
     n
 }

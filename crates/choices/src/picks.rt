@@ -3,17 +3,13 @@ ghost use Rattle.std.specs.Prelude.{◌++◌, ◌+◌, ◌<◌};
 ghost use Rattle.room.specs.Room.{seg};
 ghost use Rattle.choices.specs.Digits.{copies, Decoded, Advanced, DigitParts, PickParts};
 
-use rows::walk::wide;
-
 // Writes n digits of a number; answers what is left of the number.
 fn digits_of(room: &mut [u16], number: usize, n: usize, radix: usize, to: usize) -> usize
     requires { DigitParts room.old n radix to }
     ensures { Decoded room.old to (copies n radix) number result room.new }
 {
     let mut left = number;
-    let mut i = n;
-    while 0 < i {
-        i -= 1;
+    for i in (0..n).rev() {
         room[to + i] = (left % radix) as u16;
         left = left / radix;
     }
@@ -42,10 +38,8 @@ fn advance_of(room: &mut [u16], n: usize, radix: usize, at: usize) -> bool
     requires { PickParts room.old n radix at }
     ensures { Advanced room.old at (copies n radix) (seg room.old at n) result room.new }
 {
-    let mut i = n;
-    while 0 < i {
-        i -= 1;
-        let pick = wide(room[at + i]) + 1;
+    for i in (0..n).rev() {
+        let pick = usize::from(room[at + i]) + 1;
         if pick < radix {
             room[at + i] = pick as u16;
             return true;

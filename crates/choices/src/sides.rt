@@ -3,7 +3,6 @@ ghost use Rattle.choices.specs.Open.{OpenParts, SidesOpened};
 
 use crate::members::note_members;
 use room::layout::HEADER;
-use rows::walk::wide;
 
 // The numbers of members of its two sides; where the right side begins, and where it ends; where the two tails stand. Places are counted from the
 // body's first word.
@@ -34,8 +33,8 @@ pub fn open_sides(
     let us = scratch + (size + HEADER);
     let n = note_members(arities, room, body, 0, end, scratch);
     let m = note_members(arities, room, body, right, end, us);
-    let s = wide(room[scratch + n]);
-    let r = wide(room[us + m]);
+    let s = usize::from(room[scratch + n]);
+    let r = usize::from(room[us + m]);
     Sides {
         n,
         m,

@@ -6,7 +6,6 @@ ghost use Rattle.noted_sides.specs.NotedSides.{numbers_of, NumberParts, sides_in
 
 use choices::sides::Sides;
 use room::layout::HEADER;
-use rows::walk::wide;
 
 // Writes the numbers of members and of words.
 pub fn show_sides(room: &mut [u16], sides: Sides, to: usize)
@@ -25,12 +24,12 @@ pub fn shown_sides(room: &[u16], size: usize, scratch: usize) -> Sides
 {
     let us = scratch + (size + HEADER);
     let told = us + (size + HEADER) + size;
-    let n = wide(room[told]);
-    let m = wide(room[told + 1]);
-    let end = wide(room[told + 2]);
-    let right = wide(room[us]);
-    let s = wide(room[scratch + n]);
-    let r = wide(room[us + m]);
+    let n = usize::from(room[told]);
+    let m = usize::from(room[told + 1]);
+    let end = usize::from(room[told + 2]);
+    let right = usize::from(room[us]);
+    let s = usize::from(room[scratch + n]);
+    let r = usize::from(room[us + m]);
     Sides {
         n,
         m,

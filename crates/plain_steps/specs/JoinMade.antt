@@ -15,7 +15,7 @@ use Rattle.terms.specs.Bounds.{edition_one, edition_one_proper, edition_one_unkn
 use Rattle.terms.specs.Lists.{All, both, any, cases}
 use Rattle.terms.specs.Term.{Term, unknown, words, size, occurs, over}
 use Rattle.terms.specs.Laws.Substitution.{occurs_over}
-use Rattle.search.specs.State.{State, Node, dead, live, Entry, pend, renewed, size_equations, size_entries, state_size}
+use Rattle.search.specs.State.{State, Node, live, Entry, pend, renewed, size_equations, size_entries, state_size}
 use Rattle.search.specs.Children.{bound_state, bound, joined, without}
 use Rattle.search.specs.PileEntries.{entries-others, others-others}
 use Rattle.search.specs.StateWords.{pile_words, length_pile}

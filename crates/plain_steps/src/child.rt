@@ -7,8 +7,8 @@ use crate::plain::Plain;
 use binding::bind::finish;
 use binding::keep::keep;
 use room::layout::HEADER;
-use rows::first::Subject;
-use rows::parts::{Made, Rest, of_sized};
+use rows::first::Replacement;
+use rows::parts::{Made, Rest};
 use rows::walk::terms_after;
 
 // Takes the step that the first equation of the row at `from` calls for; the equation's words end at the place `end` of the row's body, and its right
@@ -24,26 +24,22 @@ pub fn take_step(
     end: usize,
     next: usize,
     rest: Rest,
-    subject: Subject,
+    subject: Replacement,
     step: Plain,
 ) -> Made
     requires { StepAt arities.now room.old from to scratch size right end next rest subject (of_plain step) }
     ensures { Taken arities.now room.old from to scratch size right end next rest subject (of_plain step) result room.new }
 {
     match step {
-        Plain::Drop => of_sized(keep(room, rest, from, 0, to, 0, size, next)),
-        Plain::Bind(_) => {
-            let by = subject.by;
-            let m = subject.m;
-            of_sized(finish(arities, room, rest, subject.x, by, m, to, 0, size, next))
-        }
-        Plain::Postpone(_) => of_sized(postpone(room, rest, subject, scratch, to, size, next)),
+        Plain::Drop => Made::from(keep(room, rest, from, 0, to, 0, size, next)),
+        Plain::Bind(_) => Made::from(finish(arities, room, rest, subject, to, 0, size, next)),
+        Plain::Postpone(_) => Made::from(postpone(room, rest, subject, scratch, to, size, next)),
         Plain::Decompose => {
             let body = from + HEADER;
             let k = terms_after(arities, room[body]);
             let left = body + 1;
             let other = body + right + 1;
-            of_sized(decompose(
+            Made::from(decompose(
                 arities,
                 room,
                 rest,

@@ -11,20 +11,20 @@ ghost use Rattle.plain_steps.specs.StepParts.{postponed, PostponeParts, PairPart
 
 use binding::keep::keep;
 use room::layout::HEADER;
-use rows::first::Subject;
-use rows::parts::{Rest, Sized};
+use rows::first::Replacement;
+use rows::parts::Rest;
 use rows::walk::end_of_term;
 
 // The equation moves to the end of the pile. Its entry, the unknown's word and the term's words, is laid out at a place of its own first.
 pub fn postpone(
     room: &mut [u16],
     rest: Rest,
-    subject: Subject,
+    subject: Replacement,
     entry: usize,
     to: usize,
     size: usize,
     next: usize,
-) -> Sized
+) -> Option<()>
     requires { PostponeParts room.old rest subject entry to size next }
     ensures { Finished (postponed room.old subject entry) to 0 size (kept_piece (postponed room.old subject entry) rest entry (subject.m + 1)) (header_of (kept_header rest 0 (subject.m + 1) next)) (of_sized result) room.new }
 {
@@ -79,14 +79,12 @@ fn pair_all(
     ensures value { result ≡ length (paired edition_one arities.now k (seg room.old left n) (seg room.old right m)) }
     ensures room_after { room.new ≡ put room.old to (paired edition_one arities.now k (seg room.old left n) (seg room.old right m)) }
 {
-    let mut i = 0;
     let mut l = 0;
     let mut r = 0;
-    while i < k {
+    for _ in 0..k {
         let two = pair_first(arities, room, left + l, n - l, right + r, m - r, to + l + r);
         l += two.left;
         r += two.right;
-        i += 1;
     }
     l + r
 }
@@ -104,7 +102,7 @@ pub fn decompose(
     to: usize,
     size: usize,
     next: usize,
-) -> Sized
+) -> Option<()>
     requires { DecomposeParts room.old rest left n right m to size next }
     ensures { Finished (decomposed edition_one arities.now room.old k left n right m to) to (length (paired edition_one arities.now k (seg room.old left n) (seg room.old right m))) size (kept_piece (decomposed edition_one arities.now room.old k left n right m to) rest left 0) (header_of (kept_header rest (length (paired edition_one arities.now k (seg room.old left n) (seg room.old right m))) 0 next)) (of_sized result) room.new }
 {

@@ -7,12 +7,14 @@ ghost use Rattle.plain_steps.specs.Join.{gathered};
 ghost use Rattle.plain_steps.specs.JoinLaid.{JoinParts, Joined};
 
 use binding::bind::finish_pile;
-use rows::parts::{Made, Rest, of_sized};
+use rows::first::Replacement;
+use rows::parts::{Made, Rest};
 use rows::walk::{end_of_term, is_in, place_of_kernel};
 use terms::bounds::PATH_UNKNOWNS;
 use terms::kind::unknown_word;
 
 // Writes the members, each with its mark, of all entries of x in the n words at `from`, and answers how many words they are.
+// Kept: a turn of the loop steps over an entry, as long as its term is, so no `for` over places counts it.
 fn gather(arities: &[u8], room: &mut [u16], from: usize, n: usize, x: u16, to: usize) -> usize
     requires { CopyParts room.old from n to × length room.old < 2 ^ 32 }
     ensures value { result ≡ length (gathered edition_one arities.now x n (seg room.old from n)) }
@@ -28,11 +30,9 @@ fn gather(arities: &[u8], room: &mut [u16], from: usize, n: usize, x: u16, to: u
         if room[at] == x {
             let k = place_of_kernel(arities, &room[after..end]);
             room::copy(room, after, k, to + written);
-            read += size;
             written += k;
-        } else {
-            read += size;
         }
+        read += size;
     }
     written
 }
@@ -61,5 +61,10 @@ pub fn join(
         return Made::Names;
     }
     room[last] = unknown_word(next);
-    of_sized(finish_pile(arities, room, rest, x, value, m + 1, to, 0, size, next + 1))
+    let subject = Replacement {
+        x,
+        by: value,
+        m: m + 1,
+    };
+    Made::from(finish_pile(arities, room, rest, subject, to, 0, size, next + 1))
 }

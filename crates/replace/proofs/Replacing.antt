@@ -1,4 +1,5 @@
 -- What a turn of the loop of `replace` does, said of lists: a run of words that are no x, then an x.
+use Rattle.std.proofs.Common.{Option, Some, None}
 use mathlib.Core.Path.{◌≡◌, refl, sym, ap, ◌∙◌}
 use mathlib.Core.List.{List, [], ◌∷◌, ◌++◌, append-nil}
 use Prim.Native.Nat.{ℕ, suc, ◌+◌, ◌-◌, ◌≤◌, ◌<◌, min}
@@ -9,8 +10,6 @@ use Rattle.room.specs.Room.{seg, put, length-put, length-seg, seg-zero, seg-appe
 use Rattle.room.specs.Parts.{CopyParts, ReplaceParts, apart_part, get_or-put, seg-put}
 use Rattle.room.specs.Replaced.{image, replaced, before, image_same, image_other, replaced-nil, replaced-cons, replaced-append, replaced-before, length_before, take-before, get_or-before}
 use Rattle.replace.specs.Fitting.{fitting, told, fitting-all, fitting_none, fitting-append, told_of_le, told_of_lt}
-use Rattle.replace.specs.declared.Copied.{Copied}
-use Rattle.replace.specs.declared.Copied.TheVariants.{Done, Full}
 
 -- i of the n words are read, and their images, k words, are written
 pub record Replacing (r₀ : List ℕ) (from n x by m to capacity : ℕ) (r : List ℕ) (i k : ℕ) : Type 0 where
@@ -22,7 +21,7 @@ pub record Replacing (r₀ : List ℕ) (from n x by m to capacity : ℕ) (r : Li
   pub long : length r ≡ length r₀
 
 -- what `replace` ensures
-abbrev pub Ends : List ℕ → (from n x by m to capacity : ℕ) → Copied → List ℕ → Type 0
+abbrev pub Ends : List ℕ → (from n x by m to capacity : ℕ) → Option ℕ → List ℕ → Type 0
 Ends r₀ from n x by m to capacity answer r =
     (answer ≡ told capacity (replaced x (seg r₀ by m) (seg r₀ from n))) × (r ≡ put r₀ to (fitting x (seg r₀ by m) capacity (seg r₀ from n)))
 
@@ -70,7 +69,7 @@ module _ {r₀ r : List ℕ} {from n x by m to capacity i k : ℕ} (S : Replacin
         long = rw (q, length-put) S.long;
       }
 
-  pub all-replaced : n ≤ i → Ends r₀ from n x by m to capacity (Done k) r
+  pub all-replaced : n ≤ i → Ends r₀ from n x by m to capacity (Some k) r
   all-replaced h =
       let e : i ≡ n = omega (arith, S.passed) in
       let c : length (replaced x ws (seg r₀ from n)) ≡ k = rw e at S.count in
@@ -142,7 +141,7 @@ module _ {r₀ r : List ℕ} {from n x by m to capacity i k : ℕ} (S : Replacin
         ∙ ap (λ (s : List ℕ). seg r₀ from i ++ s) (seg-cons r₀ (from + i) (n - (i + 1)) (omega (arith, S.parts.from_within)))
 
     -- its image does not fit
-    stop : capacity - k < length (image x ws word) → Ends r₀ from n x by m to capacity Full r
+    stop : capacity - k < length (image x ws word) → Ends r₀ from n x by m to capacity None r
     stop f =
         let u : List ℕ = image x ws word in
         let v : List ℕ = replaced x ws rest in
@@ -155,10 +154,10 @@ module _ {r₀ r : List ℕ} {from n x by m to capacity i k : ℕ} (S : Replacin
         rw (before_word, S.count, fitting_none x ws (capacity - k) word rest f) (append-nil out) in
         (rw (told_of_lt capacity (replaced x ws (seg r₀ from n)) longer), rw stops S.room)
 
-    other_full : (get_or r (from + i) 0 ≡ x → ⊥) → capacity ≤ k → Ends r₀ from n x by m to capacity Full r
+    other_full : (get_or r (from + i) 0 ≡ x → ⊥) → capacity ≤ k → Ends r₀ from n x by m to capacity None r
     other_full d f = stop (rw (image_other x ws word (rw (unread-word h) at d)) (omega arith))
 
-    pub same_full : get_or r (from + i) 0 ≡ x → capacity - k < m → Ends r₀ from n x by m to capacity Full r
+    pub same_full : get_or r (from + i) 0 ≡ x → capacity - k < m → Ends r₀ from n x by m to capacity None r
     same_full e f =
         stop (rw (image_same x ws word (rw (unread-word h) at e), length-seg r₀ by m S.parts.by_within) f)
 
@@ -175,7 +174,7 @@ module _ {r₀ r : List ℕ} {from n x by m to capacity i k : ℕ} (S : Replacin
 -- a run that ended before the last word and not at an x
 pub run_stopped : {r₀ r r' : List ℕ} {from n x by m to capacity i k l j : ℕ} → Replacing r₀ from n x by m to capacity r i k
     → l ≡ min (n - i) (capacity - k) → j ≡ length (before x (seg r (from + i) l))
-    → r' ≡ put r (to + k) (before x (seg r (from + i) l)) → i + j < n → (get_or r' (from + (i + j)) 0 ≡ x → ⊥) → Ends r₀ from n x by m to capacity Full r'
+    → r' ≡ put r (to + k) (before x (seg r (from + i) l)) → i + j < n → (get_or r' (from + (i + j)) 0 ≡ x → ⊥) → Ends r₀ from n x by m to capacity None r'
 run_stopped S bound length_run q h d =
     let S' = run_copied S bound length_run _ q in
     other_full S' h d (run_full S bound length_run h (λ e. d (unread-word S' h ∙ e)))

@@ -3,7 +3,7 @@
 -- In order: the definitions; it is within the capacity, and begins the whole; all of it fits; the first word does not fit; two
 -- sources joined; what is told of a result, what follows from that, and a result in two parts.
 -- Not here: laws of the whole (`Replaced`).
-use Rattle.std.specs.Prelude.{◌≡◌, cond, take, leb}
+use Rattle.std.specs.Prelude.{◌≡◌, cond, take, leb, Option, Some, None}
 use Rattle.std.proofs.Math.Path.{refl, ap}
 use Rattle.std.proofs.Common.{sym}
 use mathlib.Core.List.{List, [], ◌∷◌, ◌++◌, append_assoc}
@@ -12,8 +12,6 @@ use native.Mathlib.Omega.{arith}
 use Rattle.std.proofs.Math.ListN.{length, length-append}
 use Rattle.std.proofs.Math.Seq.{take-append-add}
 use borrow.Author.Tests.{le-leb, lt-leb, leb-true, leb-false}
-use Rattle.replace.specs.declared.Copied.{Copied}
-use Rattle.replace.specs.declared.Copied.TheVariants.{Done, Full}
 use Rattle.room.specs.Replaced.{image, replaced}
 use Rattle.room.specs.Cases.{cases}
 
@@ -22,14 +20,14 @@ fitting x ws capacity [] = []
 fitting x ws capacity (w ∷ s) =
     cond (leb (length (image x ws w)) capacity) (image x ws w ++ fitting x ws (capacity - length (image x ws w)) s) []
 
--- Done with the length of a result that fits the capacity, else Full
-unfoldable pub told : ℕ → List ℕ → Copied
-told capacity out = cond (leb (length out) capacity) (Done (length out)) Full
+-- Some length of a result that fits the capacity, else None
+unfoldable pub told : ℕ → List ℕ → Option ℕ
+told capacity out = cond (leb (length out) capacity) (Some (length out)) None
 
 -- what is told of the whole where n words were written before
-unfoldable pub further : ℕ → Copied → Copied
-further n (Done k) = Done (n + k)
-further n Full = Full
+unfoldable pub further : ℕ → Option ℕ → Option ℕ
+further n (Some k) = Some (n + k)
+further n None = None
 
 module _ (x : ℕ) (ws : List ℕ) where
   pub length-fitting : (capacity : ℕ) (s : List ℕ) → length (fitting x ws capacity s) ≤ capacity
@@ -95,26 +93,26 @@ module _ (x : ℕ) (ws : List ℕ) where
 
 -- ---- what is told
 
-pub told_of_le : (capacity : ℕ) (out : List ℕ) → length out ≤ capacity → told capacity out ≡ Done (length out)
+pub told_of_le : (capacity : ℕ) (out : List ℕ) → length out ≤ capacity → told capacity out ≡ Some (length out)
 unfolding told
 told_of_le capacity out h = rw (le-leb (length out) capacity h)
 
-pub told_of_lt : (capacity : ℕ) (out : List ℕ) → capacity < length out → told capacity out ≡ Full
+pub told_of_lt : (capacity : ℕ) (out : List ℕ) → capacity < length out → told capacity out ≡ None
 unfolding told
 told_of_lt capacity out h = rw (lt-leb (length out) capacity h)
 
-pub told-done : (capacity n : ℕ) (out : List ℕ) → told capacity out ≡ Done n → (length out ≤ capacity) × (length out ≡ n)
+pub told-done : (capacity n : ℕ) (out : List ℕ) → told capacity out ≡ Some n → (length out ≤ capacity) × (length out ≡ n)
 unfolding told
 told-done capacity n out e =
     cases (leb (length out) capacity)
-    (λ t. let f : Done (length out) ≡ Done n = simp t at e in let g : length out ≡ n = cc in (leb-true (length out) capacity t, g))
-    (λ t. let f : ◌≡◌ {A = Copied} Full (Done n) = simp t at e in let g : ◌≡◌ {A = ℕ} 0 1 = cc in absurd (omega arith))
+    (λ t. let f : Some (length out) ≡ Some n = simp t at e in let g : length out ≡ n = cc in (leb-true (length out) capacity t, g))
+    (λ t. let f : ◌≡◌ {A = Option ℕ} None (Some n) = simp t at e in let g : ◌≡◌ {A = ℕ} 0 1 = cc in absurd (omega arith))
 
-pub told_full : (capacity : ℕ) (out : List ℕ) → told capacity out ≡ Full → capacity < length out
+pub told_full : (capacity : ℕ) (out : List ℕ) → told capacity out ≡ None → capacity < length out
 unfolding told
 told_full capacity out e =
     cases (leb (length out) capacity)
-    (λ t. let f : ◌≡◌ {A = Copied} (Done (length out)) Full = simp t at e in let g : ◌≡◌ {A = ℕ} 0 1 = cc in absurd (omega arith))
+    (λ t. let f : ◌≡◌ {A = Option ℕ} (Some (length out)) None = simp t at e in let g : ◌≡◌ {A = ℕ} 0 1 = cc in absurd (omega arith))
     (λ t. leb-false (length out) capacity t)
 
 -- ---- a result in two parts, the second written after the first

@@ -3,7 +3,7 @@
 // A client's contracts cite `specs/Fitting.antt`, and `Replaced` and `Parts` of `room`.
 #![tactic(auto)]
 
-ghost use Rattle.std.specs.Prelude.{◌≡◌, min};
+ghost use Rattle.std.specs.Prelude.{◌≡◌};
 ghost use Rattle.room.specs.Room.{seg, put};
 ghost use Rattle.room.specs.Parts.{ReplaceParts};
 ghost use Rattle.room.specs.Replaced.{replaced};
@@ -12,67 +12,57 @@ ghost use Rattle.replace.specs.Fitting.{fitting, told};
 use eights::copy_before;
 use room::copy;
 
-fn smaller(a: usize, b: usize) -> usize
-    ensures { result ≡ min a b }
-{
-    if a < b { a } else { b }
-}
-
-// The answer of a replacement.
+// A word x, and the m words at `by` that are written for it.
 #[derive(Clone, Copy)]
-pub enum Copied {
-    // All is written, in this many words.
-    Done(usize),
-    // The whole is longer than the capacity.
-    Full,
+pub struct Replacement {
+    pub x: u16,
+    pub by: usize,
+    pub m: usize,
 }
 
 // `replace` of one word.
 fn replace_word(
     room: &mut [u16],
     from: usize,
-    x: u16,
-    by: usize,
-    m: usize,
+    swap: Replacement,
     to: usize,
     capacity: usize,
-) -> Copied
-    requires { ReplaceParts room.old from 1 by m to capacity }
-    ensures value { result ≡ told capacity (replaced x (seg room.old by m) (seg room.old from 1)) }
-    ensures room_after { room.new ≡ put room.old to (fitting x (seg room.old by m) capacity (seg room.old from 1)) }
+) -> Option<usize>
+    requires { ReplaceParts room.old from 1 swap.by swap.m to capacity }
+    ensures value { result ≡ told capacity (replaced swap.x (seg room.old swap.by swap.m) (seg room.old from 1)) }
+    ensures room_after { room.new ≡ put room.old to (fitting swap.x (seg room.old swap.by swap.m) capacity (seg room.old from 1)) }
 {
     let w = room[from];
-    if w == x {
-        if capacity < m {
-            return Copied::Full;
+    if w == swap.x {
+        if capacity < swap.m {
+            return None;
         }
-        copy(room, by, m, to);
-        return Copied::Done(m);
+        copy(room, swap.by, swap.m, to);
+        return Some(swap.m);
     }
     if capacity < 1 {
-        return Copied::Full;
+        return None;
     }
     room[to] = w;
-    Copied::Done(1)
+    Some(1)
 }
 
 // `replace` of any number of words, for parts that are seldom one.
 //
 // A run of words that are not x is copied at one go, no longer than the capacity allows, so that a word costs one
 // comparison with x, and eight words one with the run's bound. It ends at the last word, at an x, or where the capacity does.
+// Kept: a turn of the loop takes a run and the x that ends it, so a `for` over the words, one word each turn, has another step.
 pub fn replace_all(
     room: &mut [u16],
     from: usize,
     n: usize,
-    x: u16,
-    by: usize,
-    m: usize,
+    swap: Replacement,
     to: usize,
     capacity: usize,
-) -> Copied
-    requires { ReplaceParts room.old from n by m to capacity }
-    ensures value { result ≡ told capacity (replaced x (seg room.old by m) (seg room.old from n)) }
-    ensures room_after { room.new ≡ put room.old to (fitting x (seg room.old by m) capacity (seg room.old from n)) }
+) -> Option<usize>
+    requires { ReplaceParts room.old from n swap.by swap.m to capacity }
+    ensures value { result ≡ told capacity (replaced swap.x (seg room.old swap.by swap.m) (seg room.old from n)) }
+    ensures room_after { room.new ≡ put room.old to (fitting swap.x (seg room.old swap.by swap.m) capacity (seg room.old from n)) }
 {
     let mut read = 0;
     let mut written = 0;
@@ -80,46 +70,44 @@ pub fn replace_all(
         let run = copy_before(
             room,
             from + read,
-            smaller(n - read, capacity - written),
-            x,
+            (n - read).min(capacity - written),
+            swap.x,
             to + written,
         );
         read += run;
         written += run;
         if n <= read {
-            return Copied::Done(written);
+            return Some(written);
         }
-        if room[from + read] != x {
-            return Copied::Full;
+        if room[from + read] != swap.x {
+            return None;
         }
-        if capacity - written < m {
-            return Copied::Full;
+        if capacity - written < swap.m {
+            return None;
         }
-        copy(room, by, m, to + written);
+        copy(room, swap.by, swap.m, to + written);
         read += 1;
-        written += m;
+        written += swap.m;
     }
 }
 
-// Copies the n words at `from` to the place `to`, with the m words at `by` for each word x, in at most `capacity` words.
-// Where these do not suffice, what comes before the first word that does not fit is written, and the answer is Full. Many terms
-// are one word, which needs no loop.
+// Copies the n words at `from` to the place `to`, with the words of the swap for each x of it, in at most `capacity` words.
+// Answers how many words they are. Where the capacity does not suffice, what comes before the first word that does not fit is
+// written, and the answer is None. Many terms are one word, which needs no loop.
 pub fn replace(
     room: &mut [u16],
     from: usize,
     n: usize,
-    x: u16,
-    by: usize,
-    m: usize,
+    swap: Replacement,
     to: usize,
     capacity: usize,
-) -> Copied
-    requires { ReplaceParts room.old from n by m to capacity }
-    ensures value { result ≡ told capacity (replaced x (seg room.old by m) (seg room.old from n)) }
-    ensures room_after { room.new ≡ put room.old to (fitting x (seg room.old by m) capacity (seg room.old from n)) }
+) -> Option<usize>
+    requires { ReplaceParts room.old from n swap.by swap.m to capacity }
+    ensures value { result ≡ told capacity (replaced swap.x (seg room.old swap.by swap.m) (seg room.old from n)) }
+    ensures room_after { room.new ≡ put room.old to (fitting swap.x (seg room.old swap.by swap.m) capacity (seg room.old from n)) }
 {
     if n == 1 {
-        return replace_word(room, from, x, by, m, to, capacity);
+        return replace_word(room, from, swap, to, capacity);
     }
-    replace_all(room, from, n, x, by, m, to, capacity)
+    replace_all(room, from, n, swap, to, capacity)
 }

@@ -1,6 +1,6 @@
 -- A child's row from the place where so many words of its body are written: the other words, and then its header. Where the row does not fit, the
 -- child is larger than lent, and nothing is known of its words but that they lie in the row.
-use Rattle.std.specs.Prelude.{ℕ, ◌+◌, ◌-◌, ◌≤◌, ◌<◌, ◌≡◌, refl, cond, leb}
+use Rattle.std.specs.Prelude.{ℕ, ◌+◌, ◌-◌, ◌≤◌, ◌<◌, ◌≡◌, refl, cond, leb, Some, None}
 use Rattle.std.proofs.Math.Path.{sym, ap}
 use Rattle.std.proofs.Common.{◌∙◌, arith, length-append, le-leb}
 use mathlib.Core.List.{List, [], ◌++◌}
@@ -9,7 +9,6 @@ use Rattle.std.proofs.lemmas.Bool.{lt-leb}
 use Rattle.room.specs.Room.{put, length-put, put-nil, put-put}
 use Rattle.room.specs.Layout.{HEADER}
 use Rattle.replace.specs.Fitting.{told_full}
-use Rattle.replace.specs.declared.Copied.TheVariants.{Done, Full}
 use Rattle.rows.specs.declared.parts.Rest.{Rest}
 use Rattle.rows.specs.declared.parts.Made.{Made}
 use Rattle.rows.specs.declared.parts.Made.TheVariants.{Large, Live}
@@ -90,7 +89,7 @@ module _ {r₀ : List ℕ} {to written size : ℕ} {p : List ℕ} where
   pub finished_length : {h : List ℕ} {a : Made} {r : List ℕ} → Finished r₀ to written size p h a r → length r ≡ length r₀
   finished_length w = ap length w.room ∙ length-put (put r₀ (to + HEADER + written) w.out) to w.top ∙ length-put r₀ (to + HEADER + written) w.out
 
-  pub finished_full : (q h : List ℕ) {r : List ℕ} → written ≤ size → Wrote r₀ (to + HEADER + written) (size - written) p Full r → Finished r₀ to written size (p ++ q) h Large r
+  pub finished_full : (q h : List ℕ) {r : List ℕ} → written ≤ size → Wrote r₀ (to + HEADER + written) (size - written) p None r → Finished r₀ to written size (p ++ q) h Large r
   finished_full q h f w =
       let l : size - written < length p = told_full (size - written) p (sym w.tells) in
       let k = length-append p q in
@@ -104,7 +103,7 @@ module _ {r₀ : List ℕ} {to written size : ℕ} {p : List ℕ} where
         whole = λ g. absurd (omega arith);
       }
 
-  pub finished_sealed : {k : ℕ} (h : Header) {r r' : List ℕ} → written ≤ size → Wrote r₀ (to + HEADER + written) (size - written) p (Done k) r → r' ≡ put r to (header_of h)
+  pub finished_sealed : {k : ℕ} (h : Header) {r r' : List ℕ} → written ≤ size → Wrote r₀ (to + HEADER + written) (size - written) p (Some k) r → r' ≡ put r to (header_of h)
       → Finished r₀ to written size p (header_of h) Live r'
   unfolding header_of
   finished_sealed h f w e =
@@ -119,7 +118,7 @@ module _ {r₀ : List ℕ} {to written size : ℕ} {p : List ℕ} where
         whole = λ g. (refl, refl);
       }
 
-  pub finished_more : {k : ℕ} {q h : List ℕ} {a : Made} {r r' : List ℕ} → written ≤ size → Wrote r₀ (to + HEADER + written) (size - written) p (Done k) r
+  pub finished_more : {k : ℕ} {q h : List ℕ} {a : Made} {r r' : List ℕ} → written ≤ size → Wrote r₀ (to + HEADER + written) (size - written) p (Some k) r
       → Finished r to (written + k) size q h a r' → Finished r₀ to written size (p ++ q) h a r'
   finished_more {k} {q} {h} f w v =
       let l = done-fits w in

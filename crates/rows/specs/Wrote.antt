@@ -1,22 +1,20 @@
--- What is written into a row from left to right, in at most so many words: the pieces of a child's body. A writer tells Done with the number of
--- words of its piece, where these fit, and Full where they don't; then some words are written all the same, none of them past the capacity.
-use Rattle.std.specs.Prelude.{ℕ, ◌+◌, ◌-◌, ◌<◌, ◌≤◌, ◌≡◌, refl, List, [], ◌++◌, length}
+-- What is written into a row from left to right, in at most so many words: the pieces of a child's body. A writer tells the number of words of its
+-- piece, where these fit, and None where they don't; then some words are written all the same, none of them past the capacity.
+use Rattle.std.specs.Prelude.{ℕ, ◌+◌, ◌-◌, ◌<◌, ◌≤◌, ◌≡◌, refl, List, [], ◌++◌, length, Option, Some, None}
 use Rattle.std.proofs.Common.{ap, sym, ◌∙◌, arith, length-append}
 use Rattle.room.specs.Room.{put, length-put, put-nil, put-put}
 use Rattle.room.specs.Replaced.{replaced}
 use Rattle.replace.specs.Fitting.{fitting, told, fitting-all, length-fitting, told_of_le, told_of_lt, told-done, told_full, further, told-append}
-use Rattle.replace.specs.declared.Copied.{Copied}
-use Rattle.replace.specs.declared.Copied.TheVariants.{Done, Full}
 
 -- r is r₀ with a piece written at a place, and a what the writer told
-pub record Wrote (r₀ : List ℕ) (place capacity : ℕ) (piece : List ℕ) (a : Copied) (r : List ℕ) : Type 0 where
+pub record Wrote (r₀ : List ℕ) (place capacity : ℕ) (piece : List ℕ) (a : Option ℕ) (r : List ℕ) : Type 0 where
   pub out : List ℕ
   pub room : r ≡ put r₀ place out
   pub within : length out ≤ capacity
   pub tells : a ≡ told capacity piece
   pub whole : length piece ≤ capacity → out ≡ piece
 
-pub wrote_nothing : (r : List ℕ) (place capacity : ℕ) → Wrote r place capacity [] (Done 0) r
+pub wrote_nothing : (r : List ℕ) (place capacity : ℕ) → Wrote r place capacity [] (Some 0) r
 wrote_nothing r place capacity = record {
   out = [];
   room = sym (put-nil r place);
@@ -26,7 +24,7 @@ wrote_nothing r place capacity = record {
 }
 
 -- it does not fit, and nothing is written
-pub wrote_full : (r : List ℕ) (place : ℕ) {capacity : ℕ} (piece : List ℕ) → capacity < length piece → Wrote r place capacity piece Full r
+pub wrote_full : (r : List ℕ) (place : ℕ) {capacity : ℕ} (piece : List ℕ) → capacity < length piece → Wrote r place capacity piece None r
 wrote_full r place {capacity} piece h = record {
   out = [];
   room = sym (put-nil r place);
@@ -37,17 +35,17 @@ wrote_full r place {capacity} piece h = record {
 
 -- it fits, and all of it is written
 pub wrote_all : {r₀ : List ℕ} {place capacity n : ℕ} (piece : List ℕ) {r : List ℕ} → length piece ≡ n → n ≤ capacity → r ≡ put r₀ place piece
-    → Wrote r₀ place capacity piece (Done n) r
+    → Wrote r₀ place capacity piece (Some n) r
 wrote_all {capacity = capacity} piece l h e = record {
   out = piece;
   room = e;
   within = omega arith;
-  tells = sym (told_of_le capacity piece (omega arith) ∙ ap Done l);
+  tells = sym (told_of_le capacity piece (omega arith) ∙ ap Some l);
   whole = λ g. refl;
 }
 
 -- as `room::replace` ensures it
-pub wrote_replaced : {r₀ : List ℕ} {place capacity : ℕ} (x : ℕ) (ws s : List ℕ) {a : Copied} {r : List ℕ}
+pub wrote_replaced : {r₀ : List ℕ} {place capacity : ℕ} (x : ℕ) (ws s : List ℕ) {a : Option ℕ} {r : List ℕ}
     → a ≡ told capacity (replaced x ws s) → r ≡ put r₀ place (fitting x ws capacity s) → Wrote r₀ place capacity (replaced x ws s) a r
 wrote_replaced {capacity = capacity} x ws s e f = record {
   out = fitting x ws capacity s;
@@ -58,21 +56,21 @@ wrote_replaced {capacity = capacity} x ws s e f = record {
 }
 
 module _ {r₀ : List ℕ} {place capacity : ℕ} {p : List ℕ} where
-  pub wrote_length : {a : Copied} {r : List ℕ} → Wrote r₀ place capacity p a r → length r ≡ length r₀
+  pub wrote_length : {a : Option ℕ} {r : List ℕ} → Wrote r₀ place capacity p a r → length r ≡ length r₀
   wrote_length {r = r} w = ap length w.room ∙ length-put r₀ place w.out
 
   -- all is written
-  pub done-fits : {n : ℕ} {r : List ℕ} → Wrote r₀ place capacity p (Done n) r → length p ≤ capacity
+  pub done-fits : {n : ℕ} {r : List ℕ} → Wrote r₀ place capacity p (Some n) r → length p ≤ capacity
   done-fits {n} w = (told-done capacity n p (sym w.tells)).0
 
-  pub done-length : {n : ℕ} {r : List ℕ} → Wrote r₀ place capacity p (Done n) r → length p ≡ n
+  pub done-length : {n : ℕ} {r : List ℕ} → Wrote r₀ place capacity p (Some n) r → length p ≡ n
   done-length {n} w = (told-done capacity n p (sym w.tells)).1
 
-  pub done-room : {n : ℕ} {r : List ℕ} → Wrote r₀ place capacity p (Done n) r → r ≡ put r₀ place p
+  pub done-room : {n : ℕ} {r : List ℕ} → Wrote r₀ place capacity p (Some n) r → r ≡ put r₀ place p
   done-room w = w.room ∙ ap (put r₀ place) (w.whole (done-fits w))
 
   -- the capacity does not suffice, nor does it with more to come
-  pub full_more : {r : List ℕ} (q : List ℕ) → Wrote r₀ place capacity p Full r → Wrote r₀ place capacity (p ++ q) Full r
+  pub full_more : {r : List ℕ} (q : List ℕ) → Wrote r₀ place capacity p None r → Wrote r₀ place capacity (p ++ q) None r
   full_more q w =
       let h : capacity < length p = told_full capacity p (sym w.tells) in
       let l : capacity < length (p ++ q) = omega (arith, length-append p q) in
@@ -85,8 +83,8 @@ module _ {r₀ : List ℕ} {place capacity : ℕ} {p : List ℕ} where
       }
 
   -- one piece after the other
-  pub wrote_more : {n : ℕ} {r : List ℕ} {q : List ℕ} {a : Copied} {r' : List ℕ}
-      → Wrote r₀ place capacity p (Done n) r → Wrote r (place + n) (capacity - n) q a r' → Wrote r₀ place capacity (p ++ q) (further n a) r'
+  pub wrote_more : {n : ℕ} {r : List ℕ} {q : List ℕ} {a : Option ℕ} {r' : List ℕ}
+      → Wrote r₀ place capacity p (Some n) r → Wrote r (place + n) (capacity - n) q a r' → Wrote r₀ place capacity (p ++ q) (further n a) r'
   wrote_more {n} {r} {q} {a} {r'} w v =
       let f = done-fits w in
       let l = done-length w in

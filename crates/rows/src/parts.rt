@@ -22,20 +22,15 @@ pub enum Reached {
     Live,
 }
 
-// What became of a live node that needs no unknown too many: its size tells.
-#[derive(Clone, Copy)]
-pub enum Sized {
-    Large,
-    Live,
-}
+// A live node that needs no unknown too many, as one of all cases: its size tells. Some is written, None is larger than lent.
+impl From<Option<()>> for Made {
+    ghost from_gives = { λ node made. made ≡ of_sized node };
 
-// The same, as one of all cases.
-pub fn of_sized(node: Sized) -> Made
-    ensures { result ≡ of_sized node }
-{
-    match node {
-        Sized::Large => Made::Large,
-        Sized::Live => Made::Live,
+    fn from(node: Option<()>) -> Made {
+        match node {
+            Some(()) => Made::Live,
+            None => Made::Large,
+        }
     }
 }
 

@@ -1,4 +1,5 @@
 -- Different unknowns as tails: the child is dead, or binds both.
+use Rattle.std.proofs.Common.{Option, Some, None}
 use Prim.Native.Nat.{ℕ, suc, ◌+◌, ◌-◌, ◌*◌, ◌<◌, ◌≤◌}
 use mathlib.Core.Path.{◌≡◌, refl, ap, sym, ◌∙◌}
 use mathlib.Core.List.{List, ◌++◌}
@@ -11,8 +12,6 @@ use borrow.Author.Tests.{eqb-false}
 use Rattle.room.specs.Room.{seg, put, seg-seg}
 use Rattle.room.specs.Layout.{HEADER, stride, value_row, second_row}
 use Rattle.replace.specs.Fitting.{told-done, told_full}
-use Rattle.replace.specs.declared.Copied.{Copied}
-use Rattle.replace.specs.declared.Copied.TheVariants.{Done, Full}
 use Rattle.terms.specs.Bounds.{edition_one, edition_one_unknowns_first, PATH_UNKNOWNS, FIRST_UNKNOWN}
 use Rattle.terms.specs.Lists.{any, cond_or}
 use Rattle.terms.specs.Term.{Term, unknown, words, kernel, occurs, over, subst}
@@ -44,7 +43,7 @@ use Rattle.splits.proofs.SharedValues.{u_there, t_there}
 
 module _ {arities l : List ℕ} {from : ℕ} {rest : Rest} {sides : Sides} {joined : Joined} {x y to lent next scratch : ℕ} {l₀ : List ℕ} {p : Parent} {s r : ℕ}
     (R : Renew arities l from rest sides joined x y to lent next scratch l₀ p s r) where
-  module _ {a : Copied} {q : List ℕ} (M : ShareMade l joined x next lent scratch a q) where
+  module _ {a : Option ℕ} {q : List ℕ} (M : ShareMade l joined x next lent scratch a q) where
     shared : Shared l joined s next lent scratch p a q
     shared = M.shared l₀ p s R.sharing R.x_is (omega (arith, R.s_below, R.few))
 
@@ -64,14 +63,14 @@ module _ {arities l : List ℕ} {from : ℕ} {rest : Rest} {sides : Sides} {join
     unfolding twice half bound_state ahead
     twice-next = R.few
 
-    pub renew_large : a ≡ Full → Makes edition_one l to lent (live (twice p next s r)) Large q
+    pub renew_large : a ≡ None → Makes edition_one l to lent (live (twice p next s r)) Large q
     unfolding twice edition_one
     renew_large e =
         let h = told_full lent (words edition_one (second_value p next s)) (sym shared.tells ∙ e) in
         makes_large below-shared twice-next
         (omega (arith, length_words edition_one (second_value p next s), (bound-size r (omega (arith, R.r_below, R.few)) (second_value p next s) (half p next s)).1))
 
-    module _ (m : ℕ) (e : a ≡ Done m) where
+    module _ (m : ℕ) (e : a ≡ Some m) where
       twice-due : Twice arities q from rest sides x (joined.u + 1) y m to lent next scratch p s r
       twice-due =
           let t = told-done lent m (words edition_one (second_value p next s)) (sym shared.tells ∙ e) in

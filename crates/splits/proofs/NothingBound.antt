@@ -1,4 +1,5 @@
 -- A child that binds nothing: its new equations are written as they are, then the rest of its parent's row.
+use Rattle.std.proofs.Common.{Option, Some, None}
 use Prim.Native.Nat.{ℕ, ◌+◌, ◌-◌, ◌<◌, ◌≤◌}
 use mathlib.Core.Path.{◌≡◌, refl, ap, sym, ◌∙◌}
 use mathlib.Core.List.{List, [], ◌∷◌, ◌++◌, append_assoc, append-nil}
@@ -11,8 +12,6 @@ use Rattle.room.specs.Parts.{Apart, CopyParts, earlier, later, apart_part, seg-p
 use Rattle.room.specs.Replaced.{replaced, image}
 use Rattle.room.specs.Layout.{HEADER, stride, right_row, picks_row}
 use Rattle.replace.specs.Fitting.{told_full, told_of_le, told_of_lt, further}
-use Rattle.replace.specs.declared.Copied.{Copied}
-use Rattle.replace.specs.declared.Copied.TheVariants.{Done, Full}
 use Rattle.terms.specs.Bounds.{edition_one, FIRST_UNKNOWN}
 use Rattle.terms.specs.Term.{words, kernel}
 use Rattle.terms.specs.Formed.{Equation, sides, row}
@@ -75,7 +74,7 @@ module _ {l : List ℕ} {from : ℕ} {sides : Sides} {to capacity : ℕ} (P : Ta
   unfolding tails_piece
   length-tails = omega (arith, length-append s_words r_words, length-s, length-r)
 
-  pub tails_full : capacity < s_many + r_many → Wrote l to capacity (tails_piece l from sides) Full l
+  pub tails_full : capacity < s_many + r_many → Wrote l to capacity (tails_piece l from sides) None l
   tails_full h =
       let k = length-tails in
       record {
@@ -105,7 +104,7 @@ module _ {l : List ℕ} {from : ℕ} {sides : Sides} {to capacity : ℕ} (P : Ta
         apart = apart_part P.apart (omega arith) (omega (arith, P.r_below)) (omega arith) (omega arith);
       }
 
-      pub tails-written : {q : List ℕ} → q ≡ put r (to + s_many) (seg r (from + HEADER + sides.r) r_many) → Wrote l to capacity (tails_piece l from sides) (Done (s_many + r_many)) q
+      pub tails-written : {q : List ℕ} → q ≡ put r (to + s_many) (seg r (from + HEADER + sides.r) r_many) → Wrote l to capacity (tails_piece l from sides) (Some (s_many + r_many)) q
       unfolding tails_piece
       tails-written f =
           let k = length-tails in
@@ -116,7 +115,7 @@ module _ {l : List ℕ} {from : ℕ} {sides : Sides} {to capacity : ℕ} (P : Ta
             room = f ∙ ap (put r (to + s_many)) same ∙ ap (λ (v : List ℕ). put v (to + s_many) r_words) e
                 ∙ ap (λ (k : ℕ). put (put l to s_words) (to + k) r_words) (sym length-s) ∙ put-put s_words l r_words to;
             within = omega arith;
-            tells = sym (told_of_le capacity (tails_piece l from sides) (omega arith) ∙ ap Done k);
+            tells = sym (told_of_le capacity (tails_piece l from sides) (omega arith) ∙ ap Some k);
             whole = λ g. refl;
           }
 
@@ -138,18 +137,18 @@ module _ {arities l : List ℕ} {from : ℕ} {rest : Rest} {sides : Sides} {to l
   picks = picks_row lent scratch
 
   -- it is due still, once something is written to its row
-  due_wrote : {piece : List ℕ} {a : Copied} {r : List ℕ} → Wrote l (to + HEADER) lent piece a r → Due arities r from rest sides to lent next scratch p
+  due_wrote : {piece : List ℕ} {a : Option ℕ} {r : List ℕ} → Wrote l (to + HEADER) lent piece a r → Due arities r from rest sides to lent next scratch p
   due_wrote W = due_elsewhere (wrote_elsewhere (due_target D) W) D
 
   module _ (ds : List Equation) where
-    pub kept_full : (ms : List Entry) {r : List ℕ} → Wrote l (to + HEADER) lent (pending_words edition_one ds) Full r
+    pub kept_full : (ms : List Entry) {r : List ℕ} → Wrote l (to + HEADER) lent (pending_words edition_one ds) None r
         → Makes edition_one l to lent (live (extended ds ms next p.st)) Large r × Elsewhere l r from lent scratch
     unfolding edition_one extended
     kept_full ms w =
         let h : lent < length (pending_words edition_one ds) = told_full lent (pending_words edition_one ds) (sym w.tells) in
         (makes_large (below_put l w.out (to + HEADER) w.room (omega arith)) S.few (omega (arith, news-size ds ms next p.st)), wrote_elsewhere (due_target D) w)
 
-    module _ {w : ℕ} {r : List ℕ} (W : Wrote l (to + HEADER) lent (pending_words edition_one ds) (Done w) r) {by m : ℕ} (by_within : Within l by m) (by_apart : Apart by m to (stride lent)) where
+    module _ {w : ℕ} {r : List ℕ} (W : Wrote l (to + HEADER) lent (pending_words edition_one ds) (Some w) r) {by m : ℕ} (by_within : Within l by m) (by_apart : Apart by m to (stride lent)) where
       pub keep-parts : FinishParts r rest by m to w lent FIRST_UNKNOWN next
       keep-parts =
           let N = numbers S in
@@ -193,7 +192,7 @@ module _ {arities l : List ℕ} {from : ℕ} {rest : Rest} {sides : Sides} {to l
         equation-parts S by 1 (to + HEADER) lent (omega (arith, D.before)) (earlier (omega (arith, D.after))) (later (omega (arith, D.before)))
         (omega arith) (apart_part apart (omega arith) (omega arith) (omega arith) (omega arith))
 
-    pub plain : {x : ℕ} → x ≡ get_or l by 0 → {a : Copied} {r : List ℕ}
+    pub plain : {x : ℕ} → x ≡ get_or l by 0 → {a : Option ℕ} {r : List ℕ}
         → Wrote l (to + HEADER) lent (replaced x (seg l by 1) (equations_piece l (from + HEADER) scratch sides.n us sides.m picks)) a r → Wrote l (to + HEADER) lent (pending_words edition_one (news p)) a r
     plain {x} e w =
         let self : seg l by 1 ≡ x ∷ [] = seg-cons l by 0 h ∙ rw (seg-zero, e) in
@@ -218,7 +217,7 @@ module _ {arities l : List ℕ} {from : ℕ} {rest : Rest} {sides : Sides} {to l
   unfolding settle pend extended
   neither_is kind = rw (child_is p kind, append-nil, S.next_is, append_assoc)
 
-  module _ {w : ℕ} {r : List ℕ} (W : Wrote l (to + HEADER) lent (pending_words edition_one (news p)) (Done w) r) where
+  module _ {w : ℕ} {r : List ℕ} (W : Wrote l (to + HEADER) lent (pending_words edition_one (news p)) (Some w) r) where
     pub written_within : w ≤ lent
     written_within = omega (arith, done-fits W, done-length W)
 
@@ -236,7 +235,7 @@ module _ {arities l : List ℕ} {from : ℕ} {rest : Rest} {sides : Sides} {to l
           apart = earlier (omega (arith, D.after));
         }
 
-    pub last_written : {a : Copied} {q : List ℕ} → Wrote r (to + HEADER + w) (lent - w) (tails_piece r from sides) a q
+    pub last_written : {a : Option ℕ} {q : List ℕ} → Wrote r (to + HEADER + w) (lent - w) (tails_piece r from sides) a q
         → Wrote l (to + HEADER) lent (pending_words edition_one (news p ++ (last ∷ []))) (further w a) q
     unfolding tails_piece
     last_written v =
@@ -245,14 +244,14 @@ module _ {arities l : List ℕ} {from : ℕ} {rest : Rest} {sides : Sides} {to l
         rw (pending_append edition_one (news p) (last ∷ [])) (wrote_more W (rw e at v))
 
   module _ (kind : tails p.t p.u ≡ Neither) where
-    pub news_full : {r : List ℕ} → Wrote l (to + HEADER) lent (pending_words edition_one (news p)) Full r → Makes edition_one l to lent (child p) Large r × Elsewhere l r from lent scratch
+    pub news_full : {r : List ℕ} → Wrote l (to + HEADER) lent (pending_words edition_one (news p)) None r → Makes edition_one l to lent (child p) Large r × Elsewhere l r from lent scratch
     news_full w =
         rw (neither_is kind) (kept_full (news p ++ (last ∷ [])) [] (rw (pending_append edition_one (news p) (last ∷ [])) (full_more (pending_words edition_one (last ∷ [])) w)))
 
-    pub last_full : {r : List ℕ} → Wrote l (to + HEADER) lent (pending_words edition_one (news p ++ (last ∷ []))) Full r → Makes edition_one l to lent (child p) Large r × Elsewhere l r from lent scratch
+    pub last_full : {r : List ℕ} → Wrote l (to + HEADER) lent (pending_words edition_one (news p ++ (last ∷ []))) None r → Makes edition_one l to lent (child p) Large r × Elsewhere l r from lent scratch
     last_full w = rw (neither_is kind) (kept_full (news p ++ (last ∷ [])) [] w)
 
-    module _ {w : ℕ} {r : List ℕ} (W : Wrote l (to + HEADER) lent (pending_words edition_one (news p ++ (last ∷ []))) (Done w) r) (by : ℕ) (h : by ≤ length l) (apart : Apart by 0 to (stride lent)) where
+    module _ {w : ℕ} {r : List ℕ} (W : Wrote l (to + HEADER) lent (pending_words edition_one (news p ++ (last ∷ []))) (Some w) r) (by : ℕ) (h : by ≤ length l) (apart : Apart by 0 to (stride lent)) where
       pub neither_parts : FinishParts r rest by 0 to w lent FIRST_UNKNOWN next
       neither_parts = keep-parts (news p ++ (last ∷ [])) W {by = by} {m = 0} (omega arith) apart
 

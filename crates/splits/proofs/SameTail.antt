@@ -1,4 +1,5 @@
 -- Both tails are the same unknown X: the pile's new entry X = {T,U|X} is laid out, then the child's row.
+use Rattle.std.proofs.Common.{Some, None}
 use Prim.Native.Nat.{ℕ, ◌+◌, ◌-◌, ◌<◌, ◌≤◌}
 use mathlib.Core.Path.{◌≡◌, refl, ap, sym, ◌∙◌}
 use mathlib.Core.List.{List, [], ◌∷◌, ◌++◌, append_assoc, append-nil}
@@ -22,7 +23,6 @@ use Rattle.terms.specs.Formed.{Equation}
 use Rattle.search.specs.declared.steps.Tails.TheVariants.{Same}
 use Rattle.search.specs.Classify.{tails_by, tails}
 use Rattle.search.specs.StateWords.{pending_words, pile_words}
-use Rattle.replace.specs.declared.Copied.TheVariants.{Done, Full}
 use Rattle.rows.specs.declared.parts.Made.{Made}
 use Rattle.rows.specs.declared.parts.Made.TheVariants.{Large}
 use Rattle.rows.specs.Wrote.{Wrote}
@@ -215,12 +215,12 @@ module _ {arities l : List ℕ} {from : ℕ} {rest : Rest} {sides : Sides} {to l
   same_is kind = child_is p kind ∙ ap live (piled_up (kernel p.t) (to_right p ++ to_left p) p.st (news p) next D.opened.next_is)
 
   module _ (kind : tails p.t p.u ≡ Same) where
-    pub same_full : {q : List ℕ} → Wrote r (to + HEADER) lent (pending_words edition_one (news p)) Full q → Makes edition_one l to lent (child p) Large q × Elsewhere l q from lent scratch
+    pub same_full : {q : List ℕ} → Wrote r (to + HEADER) lent (pending_words edition_one (news p)) None q → Makes edition_one l to lent (child p) Large q × Elsewhere l q from lent scratch
     same_full w =
         let M = kept_full due-laid (news p) (entry_of (to_right p ++ to_left p) (kernel p.t)) w in
         rw (same_is kind) (makes_before below-laid M.0, elsewhere_next the_entry.elsewhere M.1)
 
-    pub same_made : {w : ℕ} {q : List ℕ} → Wrote r (to + HEADER) lent (pending_words edition_one (news p)) (Done w) q → {b : Made} {o : List ℕ}
+    pub same_made : {w : ℕ} {q : List ℕ} → Wrote r (to + HEADER) lent (pending_words edition_one (news p)) (Some w) q → {b : Made} {o : List ℕ}
         → Finished q to w lent (kept_piece q rest (value_row lent scratch) a) (header_of (kept_header rest w a next)) b o → Makes edition_one l to lent (child p) b o × Elsewhere l o from lent scratch
     same_made W F =
         let M = kept-made due-laid (news p) W entry-within entry_apart (the_entry.piled (same_kind p.t p.u kind)) F in

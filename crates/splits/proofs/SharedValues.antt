@@ -1,4 +1,5 @@
 -- The two values that share a new tail, laid out.
+use Rattle.std.proofs.Common.{Option}
 use Prim.Native.Nat.{ℕ, ◌+◌, ◌<◌}
 use mathlib.Core.Path.{◌≡◌, ap, sym, ◌∙◌}
 use mathlib.Core.List.{List, [], ◌∷◌, ◌++◌}
@@ -10,7 +11,6 @@ use Rattle.room.specs.Parts.{ReplaceParts, earlier, later, seg-put, seg-set}
 use Rattle.room.specs.Replaced.{replaced}
 use Rattle.room.specs.Layout.{value_row, second_row, shared_row}
 use Rattle.replace.specs.Fitting.{fitting, told}
-use Rattle.replace.specs.declared.Copied.{Copied}
 use Rattle.terms.specs.Bounds.{edition_one, edition_one_unknowns_first, FIRST_UNKNOWN}
 use Rattle.terms.specs.Term.{Term, unknown, words, over}
 use Rattle.rows.specs.Terms.HeldWords.{replaced_words}
@@ -97,7 +97,7 @@ module _ (lent scratch : ℕ) where
           seg-set (set l (first + joined.u) (FIRST_UNKNOWN + next)) (FIRST_UNKNOWN + next) (earlier (omega arith)) ∙ seg-set l (FIRST_UNKNOWN + next) (later (omega (arith, P.u_within))) ∙ t_there in
           seg-more ended second joined.t (rw ended_long (omega (arith, P.space, P.t_within))) ∙ rw (a, b) (n_words (to_right p))
 
-      module _ {x s : ℕ} (x_is : x ≡ FIRST_UNKNOWN + s) (small : s < FIRST_UNKNOWN) {a : Copied} {r : List ℕ}
+      module _ {x s : ℕ} (x_is : x ≡ FIRST_UNKNOWN + s) (small : s < FIRST_UNKNOWN) {a : Option ℕ} {r : List ℕ}
           (tells : a ≡ told lent (replaced x (seg ended first (joined.u + 1)) (seg ended second (joined.t + 1))))
           (room : r ≡ put ended value (fitting x (seg ended first (joined.u + 1)) lent (seg ended second (joined.t + 1)))) where
         piece_is : replaced x (seg ended first (joined.u + 1)) (seg ended second (joined.t + 1)) ≡ words edition_one (second_value p next s)

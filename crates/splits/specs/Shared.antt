@@ -1,5 +1,5 @@
 -- Two unknowns bound one after the other, to sets that share a new tail: U and T laid out in scratch, and the second binding.
-use Rattle.std.specs.Prelude.{ℕ, ◌+◌, ◌*◌, ◌<◌, ◌≤◌, ◌^◌, ◌≡◌, List, length}
+use Rattle.std.specs.Prelude.{ℕ, ◌+◌, ◌*◌, ◌<◌, ◌≤◌, ◌^◌, ◌≡◌, List, length, Option, Some}
 use Rattle.room.specs.Room.{seg, put, Within}
 use Rattle.room.specs.Parts.{Apart}
 use Rattle.room.specs.Layout.{HEADER, stride, value_row, second_row, shared_row}
@@ -17,8 +17,6 @@ use Rattle.rows.specs.Terms.MemberWords.{member_words}
 use Rattle.rows.specs.Row.{Fresh, Makes}
 use Rattle.binding.specs.Child.{Stands, ahead}
 use Rattle.replace.specs.Fitting.{told}
-use Rattle.replace.specs.declared.Copied.{Copied}
-use Rattle.replace.specs.declared.Copied.TheVariants.{Done}
 use Rattle.choices.specs.declared.sides.Sides.{Sides}
 use Rattle.splits.specs.declared.different.Joined.{Joined}
 use Rattle.choices.specs.OpenParent.{Parent, Opened, Elsewhere, to_left, to_right, news}
@@ -83,14 +81,14 @@ pub record ShareParts (l : List ℕ) (joined : Joined) (next lent scratch : ℕ)
   pub t_within : joined.t ≤ lent
   pub few : next ≤ PATH_UNKNOWNS
 
-pub record Shared (l : List ℕ) (joined : Joined) (s next lent scratch : ℕ) (p : Parent) (a : Copied) (r : List ℕ) : Type 0 where
+pub record Shared (l : List ℕ) (joined : Joined) (s next lent scratch : ℕ) (p : Parent) (a : Option ℕ) (r : List ℕ) : Type 0 where
   pub long : length r ≡ length l
   pub below : seg r 0 (value_row lent scratch) ≡ seg l 0 (value_row lent scratch)
   pub first : Stands r (value_row lent scratch) (joined.u + 1) (first_value p next)
   pub tells : a ≡ told lent (words edition_one (second_value p next s))
-  pub second : (j : ℕ) → a ≡ Done j → Stands r (shared_row lent scratch) j (second_value p next s)
+  pub second : (j : ℕ) → a ≡ Some j → Stands r (shared_row lent scratch) j (second_value p next s)
 
-pub record ShareMade (l : List ℕ) (joined : Joined) (x next lent scratch : ℕ) (a : Copied) (r : List ℕ) : Type 0 where
+pub record ShareMade (l : List ℕ) (joined : Joined) (x next lent scratch : ℕ) (a : Option ℕ) (r : List ℕ) : Type 0 where
   pub shared : (l₀ : List ℕ) (p : Parent) (s : ℕ) → Sharing l₀ lent scratch p joined l → x ≡ FIRST_UNKNOWN + s → s < FIRST_UNKNOWN → Shared l joined s next lent scratch p a r
 
 -- ---- both bindings

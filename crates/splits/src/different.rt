@@ -9,10 +9,10 @@ ghost use Rattle.tails.specs.Due.{ChildParts, ChildMade};
 
 use binding::bind::finish;
 use choices::sides::Sides;
-use replace::Copied;
+use replace::Replacement;
 use room::layout::HEADER;
 use rows::first::{read_header, rest_of};
-use rows::parts::{Made, Rest, Sized, of_sized};
+use rows::parts::{Made, Rest};
 use rows::walk::is_in;
 use tails::bound_tail::bound;
 use tails::joined_members::tail_members;
@@ -60,25 +60,23 @@ fn crosses(u: &[u16], t: &[u16], s: u16, r: u16) -> bool
     false
 }
 
-// The second binding: of x to the m words at `by`, from the row in which s is bound.
+// The second binding, from the row in which s is bound.
 fn bind_again(
     arities: &[u8],
     room: &mut [u16],
     between: usize,
-    x: u16,
-    by: usize,
-    m: usize,
+    swap: Replacement,
     to: usize,
     size: usize,
     next: usize,
-) -> Sized
-    requires { AgainParts arities.now room.old between x by m to size next }
-    ensures { AgainMade arities.now room.old between x by m to size next (of_sized result) room.new }
+) -> Option<()>
+    requires { AgainParts arities.now room.old between swap.x swap.by swap.m to size next }
+    ensures { AgainMade arities.now room.old between swap.x swap.by swap.m to size next (of_sized result) room.new }
 {
     let last = between + 5;
     let header = read_header(&room[between..last]);
     let rest = rest_of(between, header, 0);
-    finish(arities, room, rest, x, by, m, to, 0, size, next)
+    finish(arities, room, rest, swap, to, 0, size, next)
 }
 
 // Puts the new unknown's word after U and after T, and writes {T|N} with s replaced by {U|N} to the sixth row of scratch.
@@ -89,7 +87,7 @@ fn share(
     next: usize,
     size: usize,
     scratch: usize,
-) -> Copied
+) -> Option<usize>
     requires { ShareParts room.old joined next size scratch }
     ensures { ShareMade room.old joined s next size scratch result room.new }
 {
@@ -100,16 +98,12 @@ fn share(
     let word = unknown_word(next);
     room[first + joined.u] = word;
     room[second + joined.t] = word;
-    replace::replace(
-        room,
-        second,
-        joined.t + 1,
-        s,
-        first,
-        joined.u + 1,
-        value,
-        size,
-    )
+    let swap = Replacement {
+        x: s,
+        by: first,
+        m: joined.u + 1,
+    };
+    replace::replace(room, second, joined.t + 1, swap, value, size)
 }
 
 // Both bindings: s to the u words of {U|N}, by way of the last row of scratch, then r to the m words at the sixth row.
@@ -127,7 +121,7 @@ fn bind_twice(
     size: usize,
     next: usize,
     scratch: usize,
-) -> Sized
+) -> Option<()>
     requires { TwiceParts arities.now room.old from rest sides s u r m to size next scratch }
     ensures { TwiceMade arities.now room.old from rest sides s u r m to size next scratch (of_sized result) room.new }
 {
@@ -136,12 +130,16 @@ fn bind_twice(
     let value = first + stride + stride;
     let between = value + stride;
     let named = next + 1;
-    match bound(
-        arities, room, from, rest, sides, s, first, u, between, size, named, scratch,
-    ) {
-        Sized::Live => bind_again(arities, room, between, r, value, m, to, size, named),
-        Sized::Large => Sized::Large,
-    }
+    let lower = Replacement {
+        x: s,
+        by: first,
+        m: u,
+    };
+    let upper = Replacement { x: r, by: value, m };
+    bound(
+        arities, room, from, rest, sides, lower, between, size, named, scratch,
+    )?;
+    bind_again(arities, room, between, upper, to, size, named)
 }
 
 // The new unknown after U and T, then both bindings.
@@ -158,19 +156,15 @@ fn renew(
     size: usize,
     next: usize,
     scratch: usize,
-) -> Sized
+) -> Option<()>
     requires { RenewParts arities.now room.old from rest sides joined s r to size next scratch }
     ensures { RenewMade arities.now room.old from rest sides joined s r to size next scratch (of_sized result) room.new }
 {
     let u = joined.u + 1;
-    match share(room, joined, s, next, size, scratch) {
-        Copied::Done(m) => {
-            bind_twice(
-                arities, room, from, rest, sides, s, u, r, m, to, size, next, scratch,
-            )
-        }
-        Copied::Full => Sized::Large,
-    }
+    let m = share(room, joined, s, next, size, scratch)?;
+    bind_twice(
+        arities, room, from, rest, sides, s, u, r, m, to, size, next, scratch,
+    )
 }
 
 // Different unknowns.
@@ -202,7 +196,7 @@ pub fn different(
     if PATH_UNKNOWNS <= next {
         return Made::Names;
     }
-    of_sized(renew(
+    Made::from(renew(
         arities, room, from, rest, sides, joined, s, r, to, size, next, scratch,
     ))
 }

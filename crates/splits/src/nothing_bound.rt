@@ -8,13 +8,19 @@ ghost use Rattle.splits.specs.KeptTails.{tails_piece, TailsParts, EntryParts, En
 use binding::keep::keep;
 use choices::equations::equations;
 use choices::sides::Sides;
-use replace::Copied;
+use replace::Replacement;
 use room::layout::HEADER;
-use rows::parts::{Rest, Sized};
+use rows::parts::Rest;
 use tails::joined_members::tail_members;
 
 // The equation of the two tails.
-fn tails_equation(room: &mut [u16], from: usize, sides: Sides, to: usize, capacity: usize) -> Copied
+fn tails_equation(
+    room: &mut [u16],
+    from: usize,
+    sides: Sides,
+    to: usize,
+    capacity: usize,
+) -> Option<usize>
     requires { TailsParts room.old from sides to capacity }
     ensures { Wrote room.old to capacity (tails_piece room.old from sides) result room.new }
 {
@@ -22,11 +28,11 @@ fn tails_equation(room: &mut [u16], from: usize, sides: Sides, to: usize, capaci
     let s = sides.right - sides.s;
     let r = sides.end - sides.r;
     if capacity < s + r {
-        return Copied::Full;
+        return None;
     }
     room::copy(room, body + sides.s, s, to);
     room::copy(room, body + sides.r, r, to + s);
-    Copied::Done(s + r)
+    Some(s + r)
 }
 
 // Neither tail is an unknown: s = r is the last new equation. Its first word stands for itself, so that the equations are copied as they are.
@@ -40,7 +46,7 @@ pub fn neither(
     size: usize,
     next: usize,
     scratch: usize,
-) -> Sized
+) -> Option<()>
     requires { ChildParts arities.now room.old from rest sides Neither to size next scratch }
     ensures { ChildMade arities.now room.old from rest sides Neither to size next scratch (of_sized result) room.new }
 {
@@ -51,7 +57,8 @@ pub fn neither(
     let x = room[by];
     let n = sides.n;
     let k = sides.m;
-    match equations(
+    let own = Replacement { x, by, m: 1 };
+    let w = equations(
         room,
         from + HEADER,
         scratch,
@@ -59,20 +66,12 @@ pub fn neither(
         us,
         k,
         picks,
-        x,
-        by,
-        1,
+        own,
         to + HEADER,
         size,
-    ) {
-        Copied::Done(w) => {
-            match tails_equation(room, from, sides, to + HEADER + w, size - w) {
-                Copied::Done(v) => keep(room, rest, by, 0, to, w + v, size, next),
-                Copied::Full => Sized::Large,
-            }
-        }
-        Copied::Full => Sized::Large,
-    }
+    )?;
+    let v = tails_equation(room, from, sides, to + HEADER + w, size - w)?;
+    keep(room, rest, by, 0, to, w + v, size, next)
 }
 
 // Lays out the entry X = {T,U|X}, where X is both tails; answers how many words it has, none where no member joins.
@@ -109,7 +108,7 @@ pub fn same(
     size: usize,
     next: usize,
     scratch: usize,
-) -> Sized
+) -> Option<()>
     requires { ChildParts arities.now room.old from rest sides Same to size next scratch }
     ensures { ChildMade arities.now room.old from rest sides Same to size next scratch (of_sized result) room.new }
 {
@@ -122,7 +121,8 @@ pub fn same(
     let x = room[by];
     let n = sides.n;
     let k = sides.m;
-    match equations(
+    let own = Replacement { x, by, m: 1 };
+    let w = equations(
         room,
         from + HEADER,
         scratch,
@@ -130,13 +130,9 @@ pub fn same(
         us,
         k,
         picks,
-        x,
-        by,
-        1,
+        own,
         to + HEADER,
         size,
-    ) {
-        Copied::Done(w) => keep(room, rest, value, l, to, w, size, next),
-        Copied::Full => Sized::Large,
-    }
+    )?;
+    keep(room, rest, value, l, to, w, size, next)
 }

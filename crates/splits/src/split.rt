@@ -4,7 +4,7 @@ ghost use Rattle.tails.specs.Due.{ChildParts, ChildMade};
 use crate::different::different;
 use crate::nothing_bound::{neither, same};
 use choices::sides::Sides;
-use rows::parts::{Made, Rest, of_sized};
+use rows::parts::{Made, Rest};
 use search::steps::Tails;
 use tails::one_tail::{left, right};
 
@@ -25,12 +25,12 @@ pub fn split(
     ensures { ChildMade arities.now room.old from rest sides tails to size next scratch result room.new }
 {
     match tails {
-        Tails::Neither => of_sized(neither(
+        Tails::Neither => Made::from(neither(
             arities, room, from, rest, sides, to, size, next, scratch,
         )),
         Tails::Left => left(arities, room, from, rest, sides, to, size, next, scratch),
         Tails::Right => right(arities, room, from, rest, sides, to, size, next, scratch),
         Tails::Different => different(arities, room, from, rest, sides, to, size, next, scratch),
-        Tails::Same => of_sized(same(arities, room, from, rest, sides, to, size, next, scratch)),
+        Tails::Same => Made::from(same(arities, room, from, rest, sides, to, size, next, scratch)),
     }
 }

@@ -1,4 +1,5 @@
 -- A child that binds an unknown: its new equations are written, then the rest of its parent's row.
+use Rattle.std.proofs.Common.{Some, None}
 use Prim.Native.Nat.{ℕ, ◌+◌, ◌-◌, ◌<◌, ◌≤◌}
 use mathlib.Core.Path.{◌≡◌, ap, sym, ◌∙◌}
 use mathlib.Core.Bool.{Bool, true, false}
@@ -10,7 +11,6 @@ use Rattle.room.specs.Parts.{apart_part, seg-put}
 use Rattle.room.specs.Replaced.{replaced, replaced-append}
 use Rattle.room.specs.Layout.{HEADER, right_row, picks_row}
 use Rattle.replace.specs.Fitting.{told_full}
-use Rattle.replace.specs.declared.Copied.TheVariants.{Done, Full}
 use Rattle.terms.specs.Bounds.{edition_one, edition_one_unknowns_first, FIRST_UNKNOWN}
 use Rattle.terms.specs.Term.{Term, words, occurs}
 use Rattle.terms.specs.Formed.{Equation}
@@ -81,14 +81,14 @@ module _ {arities l : List ℕ} {from : ℕ} {rest : Rest} {sides : Sides} {x by
   piece_is : piece ≡ replaced (FIRST_UNKNOWN + name) (words edition_one value) (pending_words edition_one (news p))
   piece_is = rw (equations_is B.opened, B.stands.stands, B.x_is)
 
-  pub bound_full : {r : List ℕ} → Wrote l (to + HEADER) lent piece Full r → Makes edition_one l to lent (bound_child p next name value) Large r
+  pub bound_full : {r : List ℕ} → Wrote l (to + HEADER) lent piece None r → Makes edition_one l to lent (bound_child p next name value) Large r
   unfolding bound_child edition_one bound_state ahead
   bound_full w =
       let h : lent < length piece = told_full lent piece (sym w.tells) in
       let k = ap length piece_is in
       makes_large (below_put l w.out (to + HEADER) w.room (omega arith)) B.few (omega (arith, news-size name B.name_small value (news p) next p.st))
 
-  module _ {w : ℕ} {r : List ℕ} (W : Wrote l (to + HEADER) lent piece (Done w) r) where
+  module _ {w : ℕ} {r : List ℕ} (W : Wrote l (to + HEADER) lent piece (Some w) r) where
     after : Opened arities r from rest sides lent B.named scratch p
     after = opened_after (wrote_elsewhere B.target W) B.opened
 

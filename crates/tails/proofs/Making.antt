@@ -1,4 +1,5 @@
 -- What is said of a child that is made: from an earlier room on, and where there is none in the row; and what stays as it is.
+use Rattle.std.proofs.Common.{Option}
 use Prim.Native.Nat.{ℕ, ◌+◌, ◌<◌, ◌≤◌}
 use mathlib.Core.Path.{◌≡◌, refl, ap, ◌∙◌}
 use mathlib.Core.List.{List}
@@ -8,7 +9,6 @@ use borrow.Author.Tests.{le-ltb, lt-ltb}
 use Rattle.room.specs.Room.{seg, put, length-put}
 use Rattle.room.specs.Parts.{earlier, later, apart_part, seg-put}
 use Rattle.room.specs.Layout.{HEADER, stride}
-use Rattle.replace.specs.declared.Copied.{Copied}
 use Rattle.terms.specs.Bounds.{Bounds, edition_one}
 use Rattle.search.specs.declared.steps.Tails.{Tails}
 use Rattle.search.specs.State.{State, Node, dead, live, state_size}
@@ -82,7 +82,7 @@ module _ {l₀ : List ℕ} {from lent scratch to : ℕ} (T : Target l₀ from le
   put_elsewhere l out i e h k =
       elsewhere_put l out i from lent scratch e (apart_part T.low_apart (omega arith) (omega arith) h k) (apart_part T.high_apart (omega arith) (omega arith) h k)
 
-  pub wrote_elsewhere : {l piece : List ℕ} {a : Copied} {r : List ℕ} → Wrote l (to + HEADER) lent piece a r → Elsewhere l r from lent scratch
+  pub wrote_elsewhere : {l piece : List ℕ} {a : Option ℕ} {r : List ℕ} → Wrote l (to + HEADER) lent piece a r → Elsewhere l r from lent scratch
   wrote_elsewhere {l} W = put_elsewhere l W.out (to + HEADER) W.room (omega arith) (omega (arith, W.within))
 
   pub finished_elsewhere : {l : List ℕ} {written : ℕ} {piece header : List ℕ} {a : Made} {r : List ℕ} → Finished l to written lent piece header a r → Elsewhere l r from lent scratch
@@ -91,7 +91,7 @@ module _ {l₀ : List ℕ} {from lent scratch to : ℕ} (T : Target l₀ from le
       (put_elsewhere (put l (to + HEADER + written) F.out) F.top to F.room (omega arith) (omega (arith, F.top_within)))
 
   -- the whole row: the new equations, and then the rest
-  pub row_elsewhere : {l piece : List ℕ} {a : Copied} {r : List ℕ} → Wrote l (to + HEADER) lent piece a r
+  pub row_elsewhere : {l piece : List ℕ} {a : Option ℕ} {r : List ℕ} → Wrote l (to + HEADER) lent piece a r
       → {written : ℕ} {rest header : List ℕ} {b : Made} {q : List ℕ} → Finished r to written lent rest header b q → Elsewhere l q from lent scratch
   row_elsewhere W F = elsewhere_next (wrote_elsewhere W) (finished_elsewhere F)
 

@@ -10,7 +10,7 @@ use Rattle.room.specs.Room.{seg, put, seg-put_same, get_or-seg}
 use Rattle.room.specs.Parts.{earlier, later}
 use Rattle.room.specs.Layout.{HEADER, right_row, picks_row, value_row}
 use Rattle.terms.specs.Bounds.{edition_one, FIRST_UNKNOWN}
-use Rattle.terms.specs.Term.{Term, words, members, kernel, over}
+use Rattle.terms.specs.Term.{Term, words, kernel, over}
 use Rattle.terms.specs.Shape.{is_unknown, number, unknown_number}
 use Rattle.terms.specs.Laws.FormedParts.{unknown_below, formed_kernel}
 use Rattle.search.specs.declared.steps.Tails.{Tails}

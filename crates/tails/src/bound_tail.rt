@@ -5,35 +5,33 @@ ghost use Rattle.tails.specs.Bound.{BoundMade, TailMade, BoundParts};
 use binding::bind::finish;
 use choices::equations::equations;
 use choices::sides::Sides;
-use replace::Copied;
+use replace::Replacement;
 use room::layout::HEADER;
-use rows::parts::{Made, Rest, Sized, of_sized};
+use rows::parts::{Made, Rest};
 use rows::walk::is_in;
 
-// The new equations with x replaced by the m words at `by`, then the finish of the binding of x to them.
+// The new equations with the words of the swap for each x, then the finish of the binding of x to them.
 pub fn bound(
     arities: &[u8],
     room: &mut [u16],
     from: usize,
     rest: Rest,
     sides: Sides,
-    x: u16,
-    by: usize,
-    m: usize,
+    swap: Replacement,
     to: usize,
     size: usize,
     next: usize,
     scratch: usize,
-) -> Sized
-    requires { BoundParts arities.now room.old from rest sides x by m to size next scratch }
-    ensures { BoundMade arities.now room.old from rest sides x by m to size next scratch (of_sized result) room.new }
+) -> Option<()>
+    requires { BoundParts arities.now room.old from rest sides swap.x swap.by swap.m to size next scratch }
+    ensures { BoundMade arities.now room.old from rest sides swap.x swap.by swap.m to size next scratch (of_sized result) room.new }
 {
     let stride = size + HEADER;
     let us = scratch + stride;
     let picks = us + stride;
     let n = sides.n;
     let k = sides.m;
-    match equations(
+    let w = equations(
         room,
         from + HEADER,
         scratch,
@@ -41,15 +39,11 @@ pub fn bound(
         us,
         k,
         picks,
-        x,
-        by,
-        m,
+        swap,
         to + HEADER,
         size,
-    ) {
-        Copied::Done(w) => finish(arities, room, rest, x, by, m, to, w, size, next),
-        Copied::Full => Sized::Large,
-    }
+    )?;
+    finish(arities, room, rest, swap, to, w, size, next)
 }
 
 // The same, or a dead end where x occurs in the words that it would be bound to.
@@ -59,22 +53,20 @@ pub fn bind_tail(
     from: usize,
     rest: Rest,
     sides: Sides,
-    x: u16,
-    by: usize,
-    m: usize,
+    swap: Replacement,
     to: usize,
     size: usize,
     next: usize,
     scratch: usize,
 ) -> Made
-    requires { BoundParts arities.now room.old from rest sides x by m to size next scratch }
-    ensures { TailMade arities.now room.old from rest sides x by m to size next scratch result room.new }
+    requires { BoundParts arities.now room.old from rest sides swap.x swap.by swap.m to size next scratch }
+    ensures { TailMade arities.now room.old from rest sides swap.x swap.by swap.m to size next scratch result room.new }
 {
-    let end = by + m;
-    if is_in(&room[by..end], x) {
+    let end = swap.by + swap.m;
+    if is_in(&room[swap.by..end], swap.x) {
         return Made::Dead;
     }
-    of_sized(bound(
-        arities, room, from, rest, sides, x, by, m, to, size, next, scratch,
+    Made::from(bound(
+        arities, room, from, rest, sides, swap, to, size, next, scratch,
     ))
 }

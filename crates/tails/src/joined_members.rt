@@ -3,8 +3,6 @@ ghost use Rattle.std.specs.Prelude.{◌≡◌, ◌+◌, ◌≤◌, length, get_o
 ghost use Rattle.room.specs.Room.{put};
 ghost use Rattle.choices.specs.Gathered.{joining_piece, TailParts};
 
-use rows::walk::wide;
-
 // Copies the members, each with its mark, whose pick is none of the other side's members, so many; answers how many words they are.
 pub fn tail_members(
     room: &mut [u16],
@@ -19,17 +17,13 @@ pub fn tail_members(
     ensures value { (result ≡ length (joining_piece room.old body places picks n others)) × (result ≤ get_or room.old (places + n) 0) }
     ensures room_after { room.new ≡ put room.old to (joining_piece room.old body places picks n others) }
 {
-    let mut i = 0;
     let mut written = 0;
-    while i < n {
-        if wide(room[picks + i]) < others {
-            i += 1;
-        } else {
-            let p = wide(room[places + i]);
-            let q = wide(room[places + i + 1]);
+    for i in 0..n {
+        if others <= usize::from(room[picks + i]) {
+            let p = usize::from(room[places + i]);
+            let q = usize::from(room[places + i + 1]);
             room::copy(room, body + p, q - p, to + written);
             written += q - p;
-            i += 1;
         }
     }
     written

@@ -8,6 +8,7 @@ ghost use Rattle.tails.specs.Due.{ChildParts, ChildMade};
 use crate::bound_tail::bind_tail;
 use crate::joined_members::tail_members;
 use choices::sides::Sides;
+use replace::Replacement;
 use room::layout::HEADER;
 use rows::parts::{Made, Rest};
 
@@ -64,8 +65,9 @@ pub fn left(
         sides.end - sides.r,
         value,
     );
+    let swap = Replacement { x, by: value, m: k };
     bind_tail(
-        arities, room, from, rest, sides, x, value, k, to, size, next, scratch,
+        arities, room, from, rest, sides, swap, to, size, next, scratch,
     )
 }
 
@@ -100,7 +102,8 @@ pub fn right(
         sides.right - sides.s,
         value,
     );
+    let swap = Replacement { x, by: value, m: k };
     bind_tail(
-        arities, room, from, rest, sides, x, value, k, to, size, next, scratch,
+        arities, room, from, rest, sides, swap, to, size, next, scratch,
     )
 }

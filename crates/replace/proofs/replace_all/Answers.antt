@@ -10,12 +10,12 @@ loop-read-init c = none_replaced c.requires
 -- the run is copied
 ran : (c : After-copy_before-run)
     → let a = c.args in
-    Replacing a.room.now a.from a.n a.x a.by a.m a.to a.capacity c.copy_before-run.new.room (c.loop-read.read + c.copy_before-run.result) (c.loop-read.written + c.copy_before-run.result)
+    Replacing a.room.now a.from a.n a.swap.x a.swap.by a.swap.m a.to a.capacity c.copy_before-run.new.room (c.loop-read.read + c.copy_before-run.result) (c.loop-read.written + c.copy_before-run.result)
 ran c =
-    run_copied c.loop-read.invariant c.smaller.ensures c.copy_before-run.ensures.value _ c.copy_before-run.ensures.room_after
+    run_copied c.loop-read.invariant c.min.ensures c.copy_before-run.ensures.value _ c.copy_before-run.ensures.room_after
 
 pub copy_before-run-requires : goal.copy_before-run-requires
-copy_before-run-requires c = run_parts c.loop-read.invariant c.smaller.ensures
+copy_before-run-requires c = run_parts c.loop-read.invariant c.min.ensures
 
 pub overflow_add-read : goal.overflow_add-read
 overflow_add-read c = omega (arith, ran (goal.at.overflow_add-read c).After-copy_before-run)
@@ -39,7 +39,7 @@ bounds-room-from c = omega (arith, ran (goal.at.bounds-room-from c).After-copy_b
 
 pub returns-then-room-from : goal.returns-then-room-from
 returns-then-room-from c =
-    let both = run_stopped c.loop-read.invariant c.smaller.ensures c.copy_before-run.ensures.value c.copy_before-run.ensures.room_after c.if-n-read.false c.if-room-from.true in
+    let both = run_stopped c.loop-read.invariant c.min.ensures c.copy_before-run.ensures.value c.copy_before-run.ensures.room_after c.if-n-read.false c.if-room-from.true in
     record { value = both.0; room_after = both.1 }
 
 pub overflow_sub-capacity-in-loop-read : goal.overflow_sub-capacity-in-loop-read

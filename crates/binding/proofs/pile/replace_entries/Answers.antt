@@ -3,6 +3,7 @@ use lib.ListN.{length-take, length-drop}
 use Rattle.room.specs.Room.{seg}
 use native.Mathlib.Omega.{arith}
 use mathlib.Core.Path.{refl, sym, ◌∙◌}
+use Rattle.binding.proofs.pile.replace_entries.Goals.{then-wanted+in_ok-k, else-wanted}
 use Rattle.binding.proofs.pile.replace_entries.Goals as goal
 
 pub overflow_add-end : goal.overflow_add-end
@@ -84,44 +85,23 @@ replace-requires c =
     let loop_test = c.loop-read-test.true in
     entry-parts invariant.0 loop_test invariant.1 _ c.end_of_term-size.ensures
 
-pub overflow_add-read : goal.overflow_add-read
-unfolding seg
-overflow_add-read c =
-    let N = numbers c.loop-read.invariant.0 in
-    let W = size-within c.loop-read.invariant.0 c.loop-read-test.true c.loop-read.invariant.1 _ c.end_of_term-size.ensures in
-    omega (arith, c.requires.1)
-
 pub overflow_add-written : goal.overflow_add-written
 unfolding seg
 overflow_add-written c =
-    let N = numbers (entry-written c.loop-read.invariant.0 c.loop-read-test.true c.loop-read.invariant.1 _ c.end_of_term-size.ensures (sym c.wanted.ensures ∙ c.if-wanted.true) c.replace.ensures.value c.replace.ensures.room_after _ c.in-Done.is) in
+    let N = numbers (entry-written c.loop-read.invariant.0 c.loop-read-test.true c.loop-read.invariant.1 _ c.end_of_term-size.ensures (sym c.wanted.ensures ∙ c.if-wanted.true) c.replace.ensures.value c.replace.ensures.room_after _ c.in_ok-k.was) in
     omega (arith, c.requires.1)
 
-pub loop-read-smaller-in-Done : goal.loop-read-smaller-in-Done
-unfolding seg
-loop-read-smaller-in-Done c =
-    let N = numbers c.loop-read.invariant.0 in
-    let W = size-within c.loop-read.invariant.0 c.loop-read-test.true c.loop-read.invariant.1 _ c.end_of_term-size.ensures in
-    omega (arith, c.requires.1)
+pub shape_of-room-in_err-k : goal.shape_of-room-in_err-k
+shape_of-room-in_err-k c = length-after c.loop-read.invariant.0 _ _ c.replace.ensures.room_after
 
-pub loop-read-preserved-in-Done : goal.loop-read-preserved-in-Done
+pub returns-in_err-k : goal.returns-in_err-k
 unfolding seg
-loop-read-preserved-in-Done c =
-    (entry-written c.loop-read.invariant.0 c.loop-read-test.true c.loop-read.invariant.1 _ c.end_of_term-size.ensures (sym c.wanted.ensures ∙ c.if-wanted.true) c.replace.ensures.value c.replace.ensures.room_after _ c.in-Done.is, c.loop-read.invariant.1)
+returns-in_err-k c =
+    rw c.from_residual.ensures (entry_full c.loop-read.invariant.0 c.loop-read-test.true c.loop-read.invariant.1 _ c.end_of_term-size.ensures (sym c.wanted.ensures ∙ c.if-wanted.true) c.replace.ensures.value c.replace.ensures.room_after c.in_err-k.was)
 
-pub shape_of-room-in-Full : goal.shape_of-room-in-Full
-shape_of-room-in-Full c =
-    let invariant = c.loop-read.invariant in
-    length-after invariant.0 _ _ c.replace.ensures.room_after
-
-pub returns-in-Full : goal.returns-in-Full
+pub overflow_add-read : goal.overflow_add-read
 unfolding seg
-returns-in-Full c =
-    entry_full c.loop-read.invariant.0 c.loop-read-test.true c.loop-read.invariant.1 _ c.end_of_term-size.ensures (sym c.wanted.ensures ∙ c.if-wanted.true) c.replace.ensures.value c.replace.ensures.room_after c.in-Full.is
-
-pub overflow_add-read-else-wanted : goal.overflow_add-read-else-wanted
-unfolding seg
-overflow_add-read-else-wanted c =
+overflow_add-read c =
     let N = numbers c.loop-read.invariant.0 in
     let W = size-within c.loop-read.invariant.0 c.loop-read-test.true c.loop-read.invariant.1 _ c.end_of_term-size.ensures in
     omega (arith, c.requires.1)
@@ -136,9 +116,11 @@ loop-read-smaller c =
 pub loop-read-preserved : goal.loop-read-preserved
 unfolding seg
 loop-read-preserved c =
-    let invariant = c.loop-read.invariant in
-    let loop_test = c.loop-read-test.true in
-    (entry_skipped invariant.0 loop_test invariant.1 _ c.end_of_term-size.ensures (sym c.wanted.ensures ∙ c.if-wanted.false), invariant.1)
+    let S = c.loop-read.invariant in
+    elim c.if-wanted.branch [
+      | then-wanted+in_ok-k w ↦ rw (w.room-is, w.written-is) (entry-written S.0 c.loop-read-test.true S.1 _ c.end_of_term-size.ensures (sym c.wanted.ensures ∙ w.if-wanted.true) w.replace.ensures.value w.replace.ensures.room_after _ w.in_ok-k.was, S.1)
+      | else-wanted w ↦ rw (w.room-is, w.written-is) (entry_skipped S.0 c.loop-read-test.true S.1 _ c.end_of_term-size.ensures (sym c.wanted.ensures ∙ w.if-wanted.false), S.1)
+    ]
 
 pub shape_of-room : goal.shape_of-room
 shape_of-room c = long c.loop-read.invariant.0

@@ -5,42 +5,27 @@ use native.Mathlib.Omega.{arith}
 use Rattle.choices.proofs.equations.equations.Goals as goal
 
 pub overflow_add-to : goal.overflow_add-to
-overflow_add-to c =
-    let equations_of_told = c.equations_of.ensures in
-    let k = first-within c.requires _ (rw c.in-Done.is at equations_of_told) in
-    omega (arith, c.requires.0.to_within)
+overflow_add-to c = let k = first-within c.requires _ c.in_ok-w.ensures in omega (arith, c.requires.0.to_within)
 
 pub overflow_sub-capacity : goal.overflow_sub-capacity
-overflow_sub-capacity c =
-    let equations_of_told = c.equations_of.ensures in
-    let k = first-within c.requires _ (rw c.in-Done.is at equations_of_told) in
-    omega (arith, c.requires.0.to_within)
+overflow_sub-capacity c = let k = first-within c.requires _ c.in_ok-w.ensures in omega (arith, c.requires.0.to_within)
 
-pub equations_of-requires-in-Done : goal.equations_of-requires-in-Done
-equations_of-requires-in-Done c =
-    let equations_of_told = c.equations_of.ensures in
-    second_parts c.requires _ (rw c.in-Done.is at equations_of_told)
+pub equations_of-requires-2 : goal.equations_of-requires-2
+equations_of-requires-2 c = second_parts c.requires _ c.in_ok-w.ensures
 
 pub overflow_add-result : goal.overflow_add-result
 unfolding further
 overflow_add-result c =
-    let equations_of_told = c.equations_of.ensures in
-    let equations_of2_told = c.equations_of-in-Done.ensures in
-    let w = equations-written c.requires _ (rw c.in-Done.is at equations_of_told) (rw c.in-Done-equations_of.is at equations_of2_told) in
+    let w = equations-written c.requires _ c.in_ok-w.ensures c.in_ok-v.ensures in
     omega (arith, c.requires.0.to_within, done-fits w, done-length w)
 
-pub returns-in-Done-equations_of : goal.returns-in-Done-equations_of
+pub returns : goal.returns
 unfolding further
-returns-in-Done-equations_of c =
-    let equations_of_told = c.equations_of.ensures in
-    let equations_of2_told = c.equations_of-in-Done.ensures in
-    equations-written c.requires _ (rw c.in-Done.is at equations_of_told) (rw c.in-Done-equations_of.is at equations_of2_told)
+returns c = equations-written c.requires _ c.in_ok-w.ensures c.in_ok-v.ensures
 
-pub returns-in-Full-equations_of : goal.returns-in-Full-equations_of
+pub returns-in_err-v : goal.returns-in_err-v
 unfolding further
-returns-in-Full-equations_of c =
-    let equations_of_told = c.equations_of.ensures in
-    equations-written c.requires _ (rw c.in-Done.is at equations_of_told) (rw c.in-Full-equations_of.is at c.equations_of-in-Done.ensures)
+returns-in_err-v c = rw c.from_residual-in_err-v.ensures (equations-written c.requires _ c.in_ok-w.ensures c.in_err-v.ensures)
 
-pub returns-in-Full : goal.returns-in-Full
-returns-in-Full c = first_full c.requires _ (rw c.in-Full.is at c.equations_of.ensures)
+pub returns-in_err-w : goal.returns-in_err-w
+returns-in_err-w c = rw c.from_residual.ensures (first_full c.requires _ c.in_err-w.ensures)

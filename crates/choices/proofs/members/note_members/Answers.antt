@@ -1,6 +1,7 @@
 use borrow.Author.Rules.{rules}
 use Rattle.choices.proofs.Noting.{none_noted, numbers, note_last, word_passed, kernel-noted, mark_noted}
 use native.Mathlib.Omega.{arith}
+use Rattle.choices.proofs.members.note_members.Goals.{then-due-gt0, else-due-gt0+else-word-ne-MEMBER}
 use Rattle.choices.proofs.members.note_members.Goals as goal
 
 pub loop-place-init : goal.loop-place-init
@@ -17,15 +18,6 @@ bounds-room-body c = let N = numbers c.loop-place.invariant in omega arith
 
 pub overflow_add-due : goal.overflow_add-due
 overflow_add-due c = let N = numbers c.loop-place.invariant in omega (arith, c.terms_after.ensures.1)
-
-pub overflow_add-place : goal.overflow_add-place
-overflow_add-place c = let N = numbers c.loop-place.invariant in omega arith
-
-pub loop-place-smaller-then-due-gt0 : goal.loop-place-smaller-then-due-gt0
-loop-place-smaller-then-due-gt0 c = let N = numbers c.loop-place.invariant in omega arith
-
-pub loop-place-preserved-then-due-gt0 : goal.loop-place-preserved-then-due-gt0
-loop-place-preserved-then-due-gt0 c = word_passed c.loop-place.invariant c.loop-place-test.true c.if-due-gt0.true _ c.terms_after.ensures.0 c.terms_after.ensures.1
 
 pub overflow_cast-room : goal.overflow_cast-room
 overflow_cast-room c = let N = numbers c.loop-place.invariant in omega arith
@@ -50,15 +42,6 @@ returns-then-word-ne-MEMBER c =
 pub overflow_add-n : goal.overflow_add-n
 overflow_add-n c = let N = numbers c.loop-place.invariant in omega arith
 
-pub overflow_add-place-else-due-gt0 : goal.overflow_add-place-else-due-gt0
-overflow_add-place-else-due-gt0 c = let N = numbers c.loop-place.invariant in omega arith
-
-pub loop-place-smaller : goal.loop-place-smaller
-loop-place-smaller c = let N = numbers c.loop-place.invariant in omega arith
-
-pub loop-place-preserved : goal.loop-place-preserved
-loop-place-preserved c = mark_noted c.loop-place.invariant c.loop-place-test.true (omega arith) c.if-word-ne-MEMBER.false
-
 pub overflow_cast-room-2 : goal.overflow_cast-room-2
 overflow_cast-room-2 c = let N = numbers c.loop-place.invariant in omega arith
 
@@ -78,3 +61,11 @@ pub returns : goal.returns
 returns c =
     let both = note_last c.loop-place.invariant c.loop-place-test.false in
     record { result_value = both.0; room_after = both.1 }
+
+pub loop-place-preserved : goal.loop-place-preserved
+loop-place-preserved c =
+    let S = c.loop-place.invariant in
+    elim c.if-due-gt0.branch [
+      | then-due-gt0 w ↦ rw (w.room-is, w.due-is, w.n-is) (word_passed S c.loop-place-test.true w.if-due-gt0.true _ w.terms_after.ensures.0 w.terms_after.ensures.1)
+      | else-due-gt0+else-word-ne-MEMBER w ↦ rw (w.room-is, w.due-is, w.n-is) (mark_noted S c.loop-place-test.true (omega (arith, w.if-due-gt0.false)) w.if-word-ne-MEMBER.false)
+    ]

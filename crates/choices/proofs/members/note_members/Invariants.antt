@@ -1,9 +1,5 @@
 use Rattle.choices.proofs.Noting.{Noting}
-use Prim.Native.Nat.{◌-◌}
 use Rattle.choices.proofs.members.note_members.Given as goal
 
 abbrev pub invariant-loop-place : goal.invariant-loop-place
 invariant-loop-place l = Noting l.arities l.initial.room l.body l.first l.end l.to l.room l.place l.due l.n
-
-abbrev pub decreases-loop-place : goal.decreases-loop-place
-decreases-loop-place l = l.end - l.place

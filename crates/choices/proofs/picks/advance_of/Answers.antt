@@ -6,9 +6,6 @@ use Rattle.choices.proofs.picks.advance_of.Goals as goal
 pub loop-i-init : goal.loop-i-init
 loop-i-init c = none_advanced c.requires
 
-pub overflow_sub-i : goal.overflow_sub-i
-overflow_sub-i c = let N = counts c.loop-i.invariant in omega arith
-
 pub overflow_add-at : goal.overflow_add-at
 overflow_add-at c = let N = counts c.loop-i.invariant in omega arith
 
@@ -18,21 +15,21 @@ offset_bounds-room-at c = let N = counts c.loop-i.invariant in omega arith
 pub bounds-room-at : goal.bounds-room-at
 bounds-room-at c = let N = counts c.loop-i.invariant in omega arith
 
-pub wide-pick-requires : goal.wide-pick-requires
-wide-pick-requires c = let N = counts c.loop-i.invariant in omega arith
+pub from-pick-requires : goal.from-pick-requires
+from-pick-requires c = let N = counts c.loop-i.invariant in omega arith
 
 pub overflow_add-pick : goal.overflow_add-pick
 overflow_add-pick c =
     let invariant = c.loop-i.invariant in
     let N = counts invariant in
-    let b = digit-below invariant c.loop-i-test.true _ c.wide-pick.ensures in
+    let b = digit-below invariant c.loop-i-test.true _ c.from-pick.ensures in
     omega arith
 
 pub overflow_cast-room : goal.overflow_cast-room
 overflow_cast-room c =
     let invariant = c.loop-i.invariant in
     let N = counts invariant in
-    let b = digit-below invariant c.loop-i-test.true _ c.wide-pick.ensures in
+    let b = digit-below invariant c.loop-i-test.true _ c.from-pick.ensures in
     omega arith
 
 pub overflow_add-room : goal.overflow_add-room
@@ -48,7 +45,7 @@ pub shape_of-room-then-pick-radix : goal.shape_of-room-then-pick-radix
 shape_of-room-then-pick-radix c = let N = counts c.loop-i.invariant in search rules
 
 pub returns-then-pick-radix : goal.returns-then-pick-radix
-returns-then-pick-radix c = digit_advanced c.loop-i.invariant c.loop-i-test.true _ c.wide-pick.ensures c.if-pick-radix.true
+returns-then-pick-radix c = digit_advanced c.loop-i.invariant c.loop-i-test.true _ c.from-pick.ensures c.if-pick-radix.true
 
 pub overflow_add-room-in-loop-i : goal.overflow_add-room-in-loop-i
 overflow_add-room-in-loop-i c = let N = counts c.loop-i.invariant in omega arith
@@ -59,11 +56,8 @@ offset_bounds-room-at-in-loop-i c = let N = counts c.loop-i.invariant in omega a
 pub bounds-room-at-in-loop-i : goal.bounds-room-at-in-loop-i
 bounds-room-at-in-loop-i c = let N = counts c.loop-i.invariant in omega arith
 
-pub loop-i-smaller : goal.loop-i-smaller
-loop-i-smaller c = let N = counts c.loop-i.invariant in omega arith
-
 pub loop-i-preserved : goal.loop-i-preserved
-loop-i-preserved c = digit-again c.loop-i.invariant c.loop-i-test.true _ c.wide-pick.ensures c.if-pick-radix.false
+loop-i-preserved c = digit-again c.loop-i.invariant c.loop-i-test.true _ c.from-pick.ensures c.if-pick-radix.false
 
 pub shape_of-room : goal.shape_of-room
 shape_of-room c = let N = counts c.loop-i.invariant in search rules

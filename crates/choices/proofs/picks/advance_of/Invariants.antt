@@ -3,6 +3,3 @@ use Rattle.choices.proofs.picks.advance_of.Given as goal
 
 abbrev pub invariant-loop-i : goal.invariant-loop-i
 invariant-loop-i l = Advancing l.initial.room l.n l.radix l.at l.room l.i
-
-abbrev pub decreases-loop-i : goal.decreases-loop-i
-decreases-loop-i l = l.i

@@ -6,9 +6,6 @@ use Rattle.choices.proofs.picks.digits_of.Goals as goal
 pub loop-i-init : goal.loop-i-init
 loop-i-init c = none_decoded _ c.requires
 
-pub overflow_sub-i : goal.overflow_sub-i
-overflow_sub-i c = let N = numbers c.loop-i.invariant in omega arith
-
 pub nonzero_rem-room : goal.nonzero_rem-room
 nonzero_rem-room c = let N = numbers c.loop-i.invariant in omega arith
 
@@ -26,9 +23,6 @@ bounds-room-to c = let N = numbers c.loop-i.invariant in omega arith
 
 pub nonzero_div-left : goal.nonzero_div-left
 nonzero_div-left c = let N = numbers c.loop-i.invariant in omega arith
-
-pub loop-i-smaller : goal.loop-i-smaller
-loop-i-smaller c = let N = numbers c.loop-i.invariant in omega arith
 
 pub loop-i-preserved : goal.loop-i-preserved
 loop-i-preserved c = digit_decoded c.loop-i.invariant c.loop-i-test.true

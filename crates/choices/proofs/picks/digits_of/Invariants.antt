@@ -3,6 +3,3 @@ use Rattle.choices.proofs.picks.digits_of.Given as goal
 
 abbrev pub invariant-loop-i : goal.invariant-loop-i
 invariant-loop-i l = Decoding l.initial.room l.number l.n l.radix l.to l.room l.left l.i
-
-abbrev pub decreases-loop-i : goal.decreases-loop-i
-decreases-loop-i l = l.i

@@ -47,4 +47,4 @@ bounds-room-us c =
 
 pub returns : goal.returns
 returns c =
-    record { opened = λ k t u O. sides_open O _ c.note_members-n.ensures.result_value c.note_members-n.ensures.room_after _ c.note_members-m.ensures.result_value c.note_members-m.ensures.room_after c.wide-s.ensures c.wide-r.ensures }
+    record { opened = λ k t u O. sides_open O _ c.note_members-n.ensures.result_value c.note_members-n.ensures.room_after _ c.note_members-m.ensures.result_value c.note_members-m.ensures.room_after c.from-s.ensures c.from-r.ensures }

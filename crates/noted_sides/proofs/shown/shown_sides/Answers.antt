@@ -6,10 +6,10 @@ pub returns : goal.returns
 unfolding sides_in
 returns c =
     rw (
-      c.wide-r.ensures,
-      c.wide-s.ensures,
-      c.wide-right.ensures,
-      c.wide-end.ensures,
-      c.wide-m.ensures,
-      c.wide-n.ensures,
+      c.from-r.ensures,
+      c.from-s.ensures,
+      c.from-right.ensures,
+      c.from-end.ensures,
+      c.from-m.ensures,
+      c.from-n.ensures,
     )

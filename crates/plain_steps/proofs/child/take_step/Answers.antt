@@ -52,26 +52,26 @@ pub returns-in-Drop : goal.returns-in-Drop
 unfolding of_plain
 returns-in-Drop c =
     let keep_told = c.keep.ensures in
-    rw c.of_sized.ensures (record { taken = λ st e es node S o. drop_arm S (ap of_plain c.in-Drop.is) keep_told o; beside = λ st e es S. finished_beside keep_told })
+    rw c.from.ensures (record { taken = λ st e es node S o. drop_arm S (ap of_plain c.in-Drop.is) keep_told o; beside = λ st e es S. finished_beside keep_told })
 
 pub returns-in-Bind : goal.returns-in-Bind
 unfolding of_plain
 returns-in-Bind c =
     let finish_told = c.finish.ensures in
-    rw c.of_sized-in-Bind.ensures (record { taken = λ st e es node S o. bind_arm S (ap of_plain c.in-Bind.is) finish_told o; beside = λ st e es S. finished_beside finish_told })
+    rw c.from-in-Bind.ensures (record { taken = λ st e es node S o. bind_arm S (ap of_plain c.in-Bind.is) finish_told o; beside = λ st e es S. finished_beside finish_told })
 
 pub returns-in-Postpone : goal.returns-in-Postpone
 unfolding of_plain
 returns-in-Postpone c =
     let postpone_told = c.postpone.ensures in
-    rw c.of_sized-in-Postpone.ensures (record { taken = λ st e es node S o. postpone_arm S (ap of_plain c.in-Postpone.is) postpone_told o; beside = λ st e es S. postpone_beside _ (omega (arith, S.held.rows.next_row)) postpone_told })
+    rw c.from-in-Postpone.ensures (record { taken = λ st e es node S o. postpone_arm S (ap of_plain c.in-Postpone.is) postpone_told o; beside = λ st e es S. postpone_beside _ (omega (arith, S.held.rows.next_row)) postpone_told })
 
 pub returns-in-Decompose : goal.returns-in-Decompose
 unfolding of_plain
 returns-in-Decompose c =
     let terms_after_told = c.terms_after-k.ensures in
     let decompose_told = c.decompose.ensures in
-    rw c.of_sized-in-Decompose.ensures (record { taken = λ st e es node S o. decompose_arm S (ap of_plain c.in-Decompose.is) terms_after_told.0 decompose_told o; beside = λ st e es S. decompose_beside _ _ (decompose_arm_parts S (ap of_plain c.in-Decompose.is)) decompose_told })
+    rw c.from-in-Decompose.ensures (record { taken = λ st e es node S o. decompose_arm S (ap of_plain c.in-Decompose.is) terms_after_told.0 decompose_told o; beside = λ st e es S. decompose_beside _ _ (decompose_arm_parts S (ap of_plain c.in-Decompose.is)) decompose_told })
 
 pub returns-in-Dead : goal.returns-in-Dead
 unfolding of_plain

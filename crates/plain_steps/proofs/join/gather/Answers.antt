@@ -3,6 +3,7 @@ use Rattle.room.specs.Room.{seg}
 use lib.ListN.{length-take, length-drop}
 use mathlib.Core.Path.{refl}
 use native.Mathlib.Omega.{arith}
+use Rattle.plain_steps.proofs.join.gather.Goals.{then-room-at, else-room-at}
 use Rattle.plain_steps.proofs.join.gather.Goals as goal
 
 pub overflow_add-end : goal.overflow_add-end
@@ -131,41 +132,12 @@ overflow_add-written c =
     let k = kernel-within c.loop-read.invariant.0 c.loop-read-test.true c.loop-read.invariant.1 _ c.end_of_term-size.ensures _ c.place_of_kernel-k.ensures in
     omega (arith, S.parts.from_within, S.fits, c.requires.1)
 
-pub loop-read-smaller-then-room-at : goal.loop-read-smaller-then-room-at
-unfolding seg
-loop-read-smaller-then-room-at c =
-    let S = c.loop-read.invariant.0 in
-    let w = size-within c.loop-read.invariant.0 c.loop-read-test.true c.loop-read.invariant.1 _ c.end_of_term-size.ensures in
-    omega (arith, S.parts.from_within, c.requires.1)
-
-pub loop-read-preserved-then-room-at : goal.loop-read-preserved-then-room-at
-unfolding seg
-loop-read-preserved-then-room-at c =
-    let invariant = c.loop-read.invariant in
-    let loop_test = c.loop-read-test.true in
-    let end_of_term_told = c.end_of_term-size.ensures in
-    let if1 = c.if-room-at.true in
-    (entry-gathered invariant.0 loop_test invariant.1 _ end_of_term_told _ c.place_of_kernel-k.ensures if1 c.copy.ensures, invariant.1)
-
-pub overflow_add-read-else-room-at : goal.overflow_add-read-else-room-at
-unfolding seg
-overflow_add-read-else-room-at c =
-    let S = c.loop-read.invariant.0 in
-    let w = size-within c.loop-read.invariant.0 c.loop-read-test.true c.loop-read.invariant.1 _ c.end_of_term-size.ensures in
-    omega (arith, S.parts.from_within, c.requires.1)
-
 pub loop-read-smaller : goal.loop-read-smaller
 unfolding seg
 loop-read-smaller c =
     let S = c.loop-read.invariant.0 in
     let w = size-within c.loop-read.invariant.0 c.loop-read-test.true c.loop-read.invariant.1 _ c.end_of_term-size.ensures in
     omega (arith, S.parts.from_within, c.requires.1)
-
-pub loop-read-preserved : goal.loop-read-preserved
-unfolding seg
-loop-read-preserved c =
-    let invariant = c.loop-read.invariant in
-    (entry_passed invariant.0 c.loop-read-test.true invariant.1 _ c.end_of_term-size.ensures c.if-room-at.false, invariant.1)
 
 pub shape_of-room : goal.shape_of-room
 shape_of-room c = gathering_long c.loop-read.invariant.0
@@ -174,3 +146,12 @@ pub returns : goal.returns
 returns c =
     let both = all-gathered c.loop-read.invariant.0 c.loop-read-test.false in
     record { value = both.0; room_after = both.1 }
+
+pub loop-read-preserved : goal.loop-read-preserved
+unfolding seg
+loop-read-preserved c =
+    let S = c.loop-read.invariant in
+    elim c.if-room-at.branch [
+      | then-room-at w ↦ rw (w.room-is, w.written-is) (entry-gathered S.0 c.loop-read-test.true S.1 _ c.end_of_term-size.ensures _ w.place_of_kernel-k.ensures w.if-room-at.true w.copy.ensures, S.1)
+      | else-room-at w ↦ rw (w.room-is, w.written-is) (entry_passed S.0 c.loop-read-test.true S.1 _ c.end_of_term-size.ensures w.if-room-at.false, S.1)
+    ]

@@ -39,8 +39,8 @@ bounds-room-last c =
     let l = long c.args.arities.now c.requires c.gather-m.ensures.value c.gather-m.ensures.room_after in
     omega (arith, c.requires.parts.by_within, c.requires.parts.small)
 
-pub overflow_add-m : goal.overflow_add-m
-overflow_add-m c =
+pub overflow_add-subject : goal.overflow_add-subject
+overflow_add-subject c =
     let m = m_within c.args.arities.now c.requires c.gather-m.ensures.value c.gather-m.ensures.room_after in
     let l = long c.args.arities.now c.requires c.gather-m.ensures.value c.gather-m.ensures.room_after in
     omega (arith, c.requires.parts.by_within, c.requires.parts.small)
@@ -60,4 +60,4 @@ returns c =
     let if1 = c.if-is_in.false in
     let if2 = c.if-next-ge-PATH_UNKNOWNS.false in
     let unknown_word_told = c.unknown_word.ensures in
-    rw c.of_sized.ensures (joined_live c.args.arities.now c.requires c.gather-m.ensures.value c.gather-m.ensures.room_after is_in_told if1 if2 (rw unknown_word_told at c.finish_pile.ensures))
+    rw c.from.ensures (joined_live c.args.arities.now c.requires c.gather-m.ensures.value c.gather-m.ensures.room_after is_in_told if1 if2 (rw unknown_word_told at c.finish_pile.ensures))

@@ -8,19 +8,16 @@ pub bound-requires : goal.bound-requires
 bound-requires c = first-parts c.requires.parts
 
 pub bind_again-requires : goal.bind_again-requires
-unfolding of_sized
 bind_again-requires c =
-    second_parts c.requires.parts c.bound.ensures (ap of_sized c.in-Live.is)
+    second_parts c.requires.parts c.bound.ensures (ap of_sized c.in_ok-bound.was)
 
-pub returns-in-Live : goal.returns-in-Live
-unfolding of_sized
-returns-in-Live c =
+pub returns : goal.returns
+returns c =
     let bound_told = c.bound.ensures in
     let bind_again_told = c.bind_again.ensures in
-    record { makes = λ p s r D. twice-made D bound_told (ap of_sized c.in-Live.is) bind_again_told; kept = twice-kept c.requires.parts bound_told bind_again_told }
+    record { makes = λ p s r D. twice-made D bound_told (ap of_sized c.in_ok-bound.was) bind_again_told; kept = twice-kept c.requires.parts bound_told bind_again_told }
 
-pub returns-in-Large : goal.returns-in-Large
-unfolding of_sized
-returns-in-Large c =
+pub returns-in_err-bound : goal.returns-in_err-bound
+returns-in_err-bound c =
     let bound_told = c.bound.ensures in
-    record { makes = λ p s r D. twice_large D bound_told (not_large (ap of_sized c.in-Large.is)); kept = bound_told.kept }
+    rw c.from_residual.ensures (record { makes = λ p s r D. twice_large D bound_told (not_large (ap of_sized c.in_err-bound.was)); kept = bound_told.kept })

@@ -75,4 +75,4 @@ returns c =
     let crosses_told = c.crosses.ensures in
     let if1 = c.if-crosses.false in
     let renew_told = c.renew.ensures in
-    rw c.of_sized.ensures (record { makes = λ p D k. different_made D k lay_joined_told refl refl crosses_told if1 c.if-next-ge-PATH_UNKNOWNS.false renew_told; kept = λ p D k. elsewhere_next (joined_elsewhere D k lay_joined_told) renew_told.kept })
+    rw c.from.ensures (record { makes = λ p D k. different_made D k lay_joined_told refl refl crosses_told if1 c.if-next-ge-PATH_UNKNOWNS.false renew_told; kept = λ p D k. elsewhere_next (joined_elsewhere D k lay_joined_told) renew_told.kept })

@@ -5,7 +5,6 @@ use Rattle.tails.proofs.Making.{child-made}
 use Rattle.choices.specs.OpenParent.{news}
 use native.Mathlib.Omega.{arith}
 use mathlib.Core.Path.{refl}
-use Rattle.rows.specs.Made.{of_sized}
 use Rattle.splits.proofs.nothing_bound.same.Goals as goal
 
 pub overflow_add-by-2 : goal.overflow_add-by-2
@@ -25,17 +24,14 @@ equations-requires c =
 pub keep-requires : goal.keep-requires
 keep-requires c =
     let lay_entry_told = c.lay_entry-l.ensures in
-    let equations_told = c.equations.ensures in
-    keep-parts (due-laid c.requires.due lay_entry_told) (news c.requires.p) (plain (due-laid c.requires.due lay_entry_told) _ (s-place (due-laid c.requires.due lay_entry_told)) (s_apart (due-laid c.requires.due lay_entry_told) 1 (omega arith)) refl (rw c.in-Done.is at equations_told)) (entry-within c.requires.due lay_entry_told) (entry_apart c.requires.due lay_entry_told)
+    keep-parts (due-laid c.requires.due lay_entry_told) (news c.requires.p) (plain (due-laid c.requires.due lay_entry_told) _ (s-place (due-laid c.requires.due lay_entry_told)) (s_apart (due-laid c.requires.due lay_entry_told) 1 (omega arith)) refl c.in_ok-w.ensures) (entry-within c.requires.due lay_entry_told) (entry_apart c.requires.due lay_entry_told)
 
-pub returns-in-Done : goal.returns-in-Done
-returns-in-Done c =
+pub returns : goal.returns
+returns c =
     let lay_entry_told = c.lay_entry-l.ensures in
-    let equations_told = c.equations.ensures in
-    child-made (λ p D k. same_made D lay_entry_told k (plain (due-laid D lay_entry_told) _ (s-place (due-laid D lay_entry_told)) (s_apart (due-laid D lay_entry_told) 1 (omega arith)) refl (rw c.in-Done.is at equations_told)) c.keep.ensures)
+    child-made (λ p D k. same_made D lay_entry_told k (plain (due-laid D lay_entry_told) _ (s-place (due-laid D lay_entry_told)) (s_apart (due-laid D lay_entry_told) 1 (omega arith)) refl c.in_ok-w.ensures) c.keep.ensures)
 
-pub returns-in-Full : goal.returns-in-Full
-unfolding of_sized
-returns-in-Full c =
+pub returns-in_err-w : goal.returns-in_err-w
+returns-in_err-w c =
     let lay_entry_told = c.lay_entry-l.ensures in
-    child-made (λ p D k. same_full D lay_entry_told k (plain (due-laid D lay_entry_told) _ (s-place (due-laid D lay_entry_told)) (s_apart (due-laid D lay_entry_told) 1 (omega arith)) refl (rw c.in-Full.is at c.equations.ensures)))
+    rw c.from_residual.ensures (child-made (λ p D k. same_full D lay_entry_told k (plain (due-laid D lay_entry_told) _ (s-place (due-laid D lay_entry_told)) (s_apart (due-laid D lay_entry_told) 1 (omega arith)) refl c.in_err-w.ensures)))

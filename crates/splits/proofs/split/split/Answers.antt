@@ -16,7 +16,7 @@ pub same-requires : goal.same-requires
 same-requires c = rw c.in-Same.is at c.requires
 
 pub returns-in-Neither : goal.returns-in-Neither
-returns-in-Neither c = rw (c.in-Neither.is, c.of_sized.ensures) c.neither.ensures
+returns-in-Neither c = rw (c.in-Neither.is, c.from.ensures) c.neither.ensures
 
 pub returns-in-Left : goal.returns-in-Left
 returns-in-Left c = rw c.in-Left.is c.left.ensures
@@ -28,4 +28,4 @@ pub returns-in-Different : goal.returns-in-Different
 returns-in-Different c = rw c.in-Different.is c.different.ensures
 
 pub returns-in-Same : goal.returns-in-Same
-returns-in-Same c = rw (c.in-Same.is, c.of_sized-in-Same.ensures) c.same.ensures
+returns-in-Same c = rw (c.in-Same.is, c.from-in-Same.ensures) c.same.ensures

@@ -12,4 +12,4 @@ unfolding seg
 returns c =
     let is_in_told = c.is_in.ensures in
     let bound_told = c.bound.ensures in
-    rw c.of_sized.ensures (record { makes = λ p name value B. tail_bound B is_in_told c.if-is_in.false bound_told; kept = bound_told.kept })
+    rw c.from.ensures (record { makes = λ p name value B. tail_bound B is_in_told c.if-is_in.false bound_told; kept = bound_told.kept })

@@ -1,9 +1,5 @@
 use Rattle.tails.proofs.JoiningMembers.{Joining}
-use Prim.Native.Nat.{◌-◌}
 use Rattle.tails.proofs.joined_members.tail_members.Given as goal
 
 abbrev pub invariant-loop-i : goal.invariant-loop-i
 invariant-loop-i l = Joining l.initial.room l.body l.places l.picks l.n l.others l.to l.room l.i l.written
-
-abbrev pub decreases-loop-i : goal.decreases-loop-i
-decreases-loop-i l = l.n - l.i
