@@ -1,6 +1,6 @@
 -- What a C caller is told: a status, and the later value of each out number. Where a call is granted its numbers are written in the order of the
 -- parameters and the place is left alone; a refusal writes the place and leaves the others alone.
-use Rattle.std.specs.Prelude.{ℕ, ◌≡◌, List, [], ◌∷◌}
+use Rattle.std.specs.Prelude.{ℕ, ◌≡◌, List, [], ◌∷◌, Result, Ok, Err}
 use Rattle.terms.specs.Refusal.{number}
 use Rattle.terms.specs.declared.refusal.Refusal.{Refusal}
 use Rattle.search.specs.Ends.{end_number}
@@ -12,8 +12,7 @@ use Rattle.results.specs.declared.compared.Equality.{Equality}
 use Rattle.results.specs.declared.compared.Equality.TheVariants as equality
 use Rattle.results.specs.declared.compared.Solving.{Solving}
 use Rattle.results.specs.declared.compared.Solving.TheVariants as solving
-use Rattle.results.specs.declared.ran.Ran.{Ran}
-use Rattle.results.specs.declared.ran.Ran.TheVariants as ran
+use Rattle.results.specs.declared.ran.Ending.{Ending}
 
 pub data Reply : Type 0 where
   granted : (numbers : List ℕ) → Reply
@@ -65,6 +64,6 @@ of_solving solving.No = granted (0 ∷ [])
 of_solving (solving.Refused refusal) = refused refusal
 
 -- the end's number, nodes visited, answers, words
-abbrev pub of_ran : Ran → Reply
-of_ran (ran.Ended ending) = granted (end_number ending.end ∷ ending.counts.visited ∷ ending.counts.answers ∷ ending.counts.words ∷ [])
-of_ran (ran.Refused refusal) = refused refusal
+abbrev pub of_ran : Result Ending Refusal → Reply
+of_ran (Ok ending) = granted (end_number ending.end ∷ ending.counts.visited ∷ ending.counts.answers ∷ ending.counts.words ∷ [])
+of_ran (Err refusal) = refused refusal

@@ -9,7 +9,7 @@ ghost use Rattle.std.specs.Prelude.{◌≡◌, [], ◌∷◌};
 ghost use Rattle.terms.specs.Refusal.{number};
 ghost use Rattle.c_replies.specs.Replies.{Replied, of_question, of_written, of_ran};
 
-use results::ran::Ran;
+use results::ran::Ending;
 use results::read::Question;
 use results::written::Written;
 use search::ends::number_of_end;
@@ -62,7 +62,7 @@ pub fn tell_written(written: Written, length: &mut usize, place: &mut usize) -> 
 }
 
 pub fn tell_ran(
-    ran: Ran,
+    ran: Result<Ending, Refusal>,
     end: &mut u32,
     visited: &mut u64,
     count: &mut u64,
@@ -74,7 +74,7 @@ pub fn tell_ran(
         place.old place.new }
 {
     match ran {
-        Ran::Ended(ending) => {
+        Ok(ending) => {
             let how = ending.end;
             let counts = ending.counts;
             *end = number_of_end(how);
@@ -83,6 +83,6 @@ pub fn tell_ran(
             *used = counts.words;
             0
         }
-        Ran::Refused(refusal) => tell_refusal(refusal, place),
+        Err(refusal) => tell_refusal(refusal, place),
     }
 }

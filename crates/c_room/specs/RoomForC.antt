@@ -1,16 +1,15 @@
 -- The words of a run's room, as C asks for them.
-use Rattle.std.specs.Prelude.{ℕ, ◌+◌, ◌*◌, ◌≤◌, ◌<◌, ◌≡◌}
+use Rattle.std.specs.Prelude.{ℕ, ◌+◌, ◌*◌, ◌≤◌, ◌<◌, ◌≡◌, Option, Some, None}
 use Rattle.std.proofs.Common.{lt-ltb, le-ltb}
 use Rattle.room.specs.Layout.{HEADER, SPARE_ROWS}
 use Rattle.search.specs.RunLimits.{lent, most_depth, most_size}
-use Rattle.search.specs.declared.limits.Lent.{Lent}
-use Rattle.search.specs.declared.limits.Lent.TheVariants as lents
+use Rattle.search.specs.declared.limits.Limits.{Limits}
 use Rattle.results.specs.Loans.{needed}
 
 -- none where a limit is exceeded
-abbrev pub room_of : Lent → ℕ
-room_of (lents.Within limits) = needed limits
-room_of lents.Above = 0
+abbrev pub room_of : Option Limits → ℕ
+room_of (Some limits) = needed limits
+room_of None = 0
 
 abbrev pub room_words : (depth size : ℕ) → ℕ
 room_words depth size = room_of (lent 0 depth size)

@@ -1,6 +1,6 @@
 -- The lines of `Promised`, applied to specimens, so that no line asks what no call gives: here those about runs, 1 to 4, and below, in `Entries`, 5 to 9.
 use Rattle.std.specs.Prelude.{ℕ, ◌≤◌, ◌≡◌, refl, List, [], ◌∷◌, map, take, replicate}
-use Rattle.std.proofs.Common.{arith}
+use Rattle.std.proofs.Common.{arith, Ok}
 use Rattle.terms.specs.Bounds.{edition_one}
 use Rattle.terms.specs.Kind.{within, kind}
 use Rattle.terms.specs.Lists.{All, Any, none as no_more, both, any, All-first}
@@ -18,7 +18,6 @@ use Rattle.search.specs.Specimens.{computing}
 use Rattle.search.specs.Ends.{end_number}
 use Rattle.promises.specs.Wording.{NoLess}
 use Rattle.answers.specs.Fits.{Meets, Fits}
-use Rattle.results.specs.declared.ran.Ran.TheVariants as running
 use Rattle.results.specs.Loans.{loan, needed, ending}
 use Rattle.results.specs.Result.{gives, told, told_within, result}
 use Rattle.guarantees.specs.Calls.{Posed, asked, Lending, loan_of, in_room, run_told, answers_after, used}
@@ -87,7 +86,7 @@ gave_nothing = refl
 granted : Granted question sufficient outcome
 granted = (Promised.granted_exactly question sufficient outcome).0 gave
 
-ended : result (run_told question sufficient) ≡ running.Ended (record { end = Done; counts = record { visited = 3; answers = 1; words = 5 } })
+ended : result (run_told question sufficient) ≡ Ok (record { end = Done; counts = record { visited = 3; answers = 1; words = 5 } })
 unfolding ending computing
 ended = (Promised.ended_exactly question sufficient _).1 (outcome, gave, refl)
 

@@ -6,6 +6,7 @@
 -- an answer, search/specs/Run the published search, promises/specs/Wording when a loan is no less than another, terms/specs/Refusal and search/specs/Ends the
 -- numbers of refusals and ends.
 use Rattle.std.specs.Prelude.{ℕ, suc, ◌≤◌, ◌<◌, ◌≡◌, List, [], ◌∷◌, ◌++◌, map, ◌↔◌, ◌⊎◌, length, take, drop}
+use Rattle.std.proofs.Common.{Ok, Err}
 use Rattle.terms.specs.Bounds.{edition_one, NESTING, BYTES}
 use Rattle.terms.specs.Lists.{All, Any}
 use Rattle.terms.specs.Term.{Term, Terms, with, functor, more, members, kernel, list, nesting}
@@ -36,7 +37,6 @@ use Rattle.results.specs.declared.compared.Solving.TheVariants as solving
 use Rattle.results.specs.Loans.{ending}
 use Rattle.results.specs.Result.{gives, refuses, result}
 use Rattle.results.specs.declared.ran.Ending.{Ending}
-use Rattle.results.specs.declared.ran.Ran.TheVariants as running
 use Rattle.guarantees.specs.Calls.{Posed, asked, in_words, Lending, loan_of, in_room, run_told, answers_after, used, question_told, question_after, list_told, list_after, solves_told, text_told, arities_after, words_after}
 use Rattle.guarantees.specs.Notions.{Granted, ReadOnce, largest, NestsWithin, Writable, Writes, Reads, question_in, Compared, Tried, OneOf}
 use Rattle.guarantees.proofs.Subjects.Granting as granting
@@ -56,7 +56,7 @@ pub granted_exactly : (q : Posed) (l : Lending) (o : Outcome) → (run_told q l 
 granted_exactly = granting.granted_exactly
 
 -- what is given back then: the outcome's end, nodes visited, answers, and the words that these take
-pub ended_exactly : (q : Posed) (l : Lending) (e : Ending) → (result (run_told q l) ≡ running.Ended e) ↔ ((o : Outcome) × (run_told q l ≡ gives o) × (ending o ≡ e))
+pub ended_exactly : (q : Posed) (l : Lending) (e : Ending) → (result (run_told q l) ≡ Ok e) ↔ ((o : Outcome) × (run_told q l ≡ gives o) × (ending o ≡ e))
 ended_exactly = granting.ended_exactly
 
 module _ (q : Posed) (l : Lending) (o : Outcome) (gave : run_told q l ≡ gives o) where
@@ -198,7 +198,7 @@ pub list-refused : (arities : List ℕ) (end visited answers : ℕ) (words buffe
 list-refused = refusing.list-refused
 
 -- of the room the contract itself says so, where `run_told q l ≡ refuses r`
-pub run_refused : (q : Posed) (l : Lending) (r : Refusal) → result (run_told q l) ≡ running.Refused r → (run_told q l ≡ refuses r) × (answers_after q l ≡ l.answers)
+pub run_refused : (q : Posed) (l : Lending) (r : Refusal) → result (run_told q l) ≡ Err r → (run_told q l ≡ refuses r) × (answers_after q l ≡ l.answers)
 run_refused = refusing.run_refused
 
 -- ---- 9. the numbers of ends and refusals, SPECIFICATION 6.2 and 7

@@ -27,7 +27,7 @@ ghost use Rattle.equality.specs.Answering.{equal_answer, solves_answer};
 ghost use Rattle.results.specs.Result.{RunGives, told};
 
 pub use results::compared::{Equality, Solving};
-pub use results::ran::{Ending, Ran, Record};
+pub use results::ran::{Ending, Record};
 pub use results::read::Question;
 pub use results::written::Written;
 pub use search::ends::{End, number_of_end};
@@ -114,10 +114,10 @@ pub fn solves(
 // Searches for every solved form of a question, within limits.
 //   Lent: the question; the limits: steps 0 to 1,000,000,000, depth 0 to 1,024, size 0 to 8,192; a buffer for the answers' words, of any length; the room
 //   to work in, of (depth + 8) * (size + 8) words or more. What the room holds changes no result.
-//   Back: `Ended`, with the end, the nodes visited, the answers listed and the words that these take. They stand at the start of the answers' buffer, as
+//   Back: `Ok`, with the end, the nodes visited, the answers listed and the words that these take. They stand at the start of the answers' buffer, as
 //   `write_answers` takes them, and what comes after them is unchanged. `Done` is final: ground values solve the question exactly if they fit a listed
 //   answer. Every other end says that the search is not finished, and what to lend more of; the answers listed are true all the same, and a longer run
-//   lists them first. Or `Refused`: 3 with place 0 for the limits; then 3 and 8 for the question, as in `write_question`; then 7 with the words that the room
+//   lists them first. Or `Err`: 3 with place 0 for the limits; then 3 and 8 for the question, as in `write_question`; then 7 with the words that the room
 //   must have. The room's later words are not told, except that a refusal leaves them alone.
 //   Example: 1, [0], 1, [1000, 1, 2000, 1000], which is x0 = {f0|x0}, steps 3, depth 2, size 4, five answer words and a room of 120 give Done, visited 3, one
 //   answer of 5 words, 1 0 1 2000 1001: one binding, x0 = {f0|x1}.
@@ -131,7 +131,7 @@ pub fn run(
     size: usize,
     answers: &mut [u16],
     room: &mut [u16],
-) -> Ran
+) -> Result<Ending, Refusal>
     ensures { RunGives (told unknowns arities.now equations words.now steps depth size (length answers.old) (length room.old)) result answers.old answers.new room.old room.new }
 {
     solver::run(

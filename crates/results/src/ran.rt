@@ -1,6 +1,5 @@
 // What a run gives.
 use search::ends::End;
-use terms::refusal::Refusal;
 
 // Nodes visited, answers, and the words that their list takes.
 #[derive(Clone, Copy)]
@@ -15,11 +14,4 @@ pub struct Record {
 pub struct Ending {
     pub end: End,
     pub counts: Record,
-}
-
-// What a run answers.
-#[derive(Clone, Copy)]
-pub enum Ran {
-    Ended(Ending),
-    Refused(Refusal),
 }

@@ -9,12 +9,6 @@ pub struct Limits {
     pub size: usize,
 }
 
-#[derive(Clone, Copy)]
-pub enum Lent {
-    Within(Limits),
-    Above,
-}
-
 impl Limits {
     pub const STEPS: u64 = 1_000_000_000;
 
@@ -23,18 +17,18 @@ impl Limits {
     pub const SIZE: usize = 8192;
 
     // The three lent numbers as limits, where none is above its bound.
-    pub fn new(steps: u64, depth: usize, size: usize) -> Lent
+    pub fn new(steps: u64, depth: usize, size: usize) -> Option<Limits>
         ensures { result ≡ lent steps depth size }
     {
         if Self::STEPS < steps {
-            return Lent::Above;
+            return None;
         }
         if Self::DEPTH < depth {
-            return Lent::Above;
+            return None;
         }
         if Self::SIZE < size {
-            return Lent::Above;
+            return None;
         }
-        Lent::Within(Limits { steps, depth, size })
+        Some(Limits { steps, depth, size })
     }
 }

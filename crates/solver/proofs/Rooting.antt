@@ -23,7 +23,6 @@ use Rattle.rows.specs.Header.{header_of}
 use Rattle.rows.specs.Row.{Fresh, header_for, header_words}
 use Rattle.search_turn.specs.ChildrenPassed.{spent_stops, large_stops}
 use Rattle.results.specs.Loans.{loan, ending}
-use Rattle.results.specs.Result.{gives}
 use Rattle.search_turn.specs.Running.{given, remains, Ends}
 use Rattle.search_loop.specs.Root.{root_header, rooted, nothing, Rooted}
 use Rattle.search_loop.proofs.RootRun.{row_fits, ends_as}

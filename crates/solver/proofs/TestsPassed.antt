@@ -2,6 +2,7 @@
 use Prim.Native.Nat.{ℕ, ◌≤◌}
 use mathlib.Core.Path.{◌≡◌, sym}
 use mathlib.Core.List.{List}
+use Rattle.std.proofs.Common.{Option, Some, None, Ok}
 use native.Mathlib.Omega.{arith}
 use lib.Dec.{ltb}
 use lib.ListN.{length}
@@ -13,10 +14,7 @@ use Rattle.terms.specs.Reading.{question_of}
 use Rattle.terms.specs.declared.refusal.Checked.TheVariants.{Fine}
 use Rattle.terms.specs.Lists.{cases}
 use Rattle.search.specs.declared.limits.Limits.{Limits}
-use Rattle.search.specs.declared.limits.Lent.{Lent}
-use Rattle.search.specs.declared.limits.Lent.TheVariants.{Within, Above}
 use Rattle.search.specs.RunLimits.{lent, most_steps, most_depth, most_size}
-use Rattle.results.specs.declared.ran.Ran.TheVariants.{Ended}
 use Rattle.results.specs.declared.ran.Ending.{Ending}
 use Rattle.results.specs.Loans.{needed}
 use Rattle.results.specs.Result.{told_within, RunGives}
@@ -27,7 +25,7 @@ use Rattle.solver.specs.Start.{Asking, Bounded, whole_run}
 
 pub fine_run : (n : ℕ) (arities : List ℕ) (e : ℕ) (ws : List ℕ) (limits : Limits) (a l : List ℕ) → check_question edition_one n arities e ws ≡ Fine
     → {r : Ending} {answers room : List ℕ} → needed limits ≤ length l → Ends (whole_run n arities ws limits a) r answers
-    → RunGives (told_within n arities e ws (length a) (length l) (Within limits)) (Ended r) a answers l room
+    → RunGives (told_within n arities e ws (length a) (length l) (Some limits)) (Ok r) a answers l room
 unfolding whole_run
 fine_run n arities e ws limits a l fine h E = given_so (is_run n arities e ws limits a l fine h) (sym E.ending) (sym E.answers)
 
@@ -50,15 +48,15 @@ asking {n} {arities} e {ws} {limits} B f h =
       worded = q.worded;
     }
 
-pub within_bounds : (steps depth size : ℕ) {limits : Limits} → lent steps depth size ≡ Within limits → Bounded limits
+pub within_bounds : (steps depth size : ℕ) {limits : Limits} → lent steps depth size ≡ Some limits → Bounded limits
 within_bounds steps depth size {limits} e =
     cases (ltb most_steps steps) (λ t. never (rw t at e))
     (λ f. cases (ltb most_depth depth) (λ t. never (rw (f, t) at e))
     (λ g. cases (ltb most_size size) (λ t. never (rw (f, g, t) at e))
     (λ h.
-    let same : Within (record { steps = steps; depth = depth; size = size }) ≡ Within limits = rw (f, g, h) at e in
+    let same : Some (record { steps = steps; depth = depth; size = size }) ≡ Some limits = rw (f, g, h) at e in
     let is : limits ≡ record { steps = steps; depth = depth; size = size } = cc in
     rw is (record { steps = ltb-false most_steps steps f; depth = ltb-false most_depth depth g; size = ltb-false most_size size h }))))
   where
-    never : {P : Type 0} → ◌≡◌ {A = Lent} Above (Within limits) → P
+    never : {P : Type 0} → ◌≡◌ {A = Option Limits} None (Some limits) → P
     never e = let z : ◌≡◌ {A = ℕ} 0 1 = cc in absurd (omega arith)

@@ -3,17 +3,16 @@
 // In specs/, `Result` says what a run gives for any input; `Start` is where the search starts.
 #![tactic(auto)]
 
-ghost use Rattle.std.specs.Prelude.{length};
-ghost use Rattle.search.specs.declared.limits.Lent.TheVariants as lents;
+ghost use Rattle.std.specs.Prelude.{length, Some};
 ghost use Rattle.results.specs.Result.{RunGives, told, told_within};
 ghost use Rattle.search_turn.specs.Running.{Ends};
 ghost use Rattle.solver.specs.Start.{Asking, Bounded, whole_run};
 
 use lent_words::check_question;
-use results::ran::{Ending, Ran, Record};
+use results::ran::{Ending, Record};
 use room::layout::{HEADER, SPARE_ROWS};
 use search::ends::End;
-use search::limits::{Lent, Limits};
+use search::limits::Limits;
 use search_loop::enter_root;
 use search_loop::row::write_root;
 use terms::refusal::{Cause, Checked, Refusal};
@@ -60,21 +59,21 @@ fn run_within(
     limits: Limits,
     answers: &mut [u16],
     room: &mut [u16],
-) -> Ran
+) -> Result<Ending, Refusal>
     requires { Bounded limits }
-    ensures { RunGives (told_within unknowns arities.now equations words.now (length answers.old) (length room.old) (lents.Within limits)) result answers.old answers.new room.old room.new }
+    ensures { RunGives (told_within unknowns arities.now equations words.now (length answers.old) (length room.old) (Some limits)) result answers.old answers.new room.old room.new }
 {
     match check_question(unknowns, arities, equations, words) {
-        Checked::Refused(refusal) => Ran::Refused(refusal),
+        Checked::Refused(refusal) => Err(refusal),
         Checked::Fine => {
             let needed = (limits.depth + SPARE_ROWS) * (limits.size + HEADER);
             if room.len() < needed {
-                return Ran::Refused(Refusal {
+                return Err(Refusal {
                     cause: Cause::Buffer,
                     place: needed,
                 });
             }
-            Ran::Ended(start(
+            Ok(start(
                 unknowns,
                 arities,
                 words,
@@ -98,16 +97,12 @@ pub fn run(
     size: usize,
     answers: &mut [u16],
     room: &mut [u16],
-) -> Ran
+) -> Result<Ending, Refusal>
     ensures { RunGives (told unknowns arities.now equations words.now steps depth size (length answers.old) (length room.old)) result answers.old answers.new room.old room.new }
 {
-    match Limits::new(steps, depth, size) {
-        Lent::Within(limits) => run_within(
-            unknowns, arities, equations, words, limits, answers, room,
-        ),
-        Lent::Above => Ran::Refused(Refusal {
-            cause: Cause::Limit,
-            place: 0,
-        }),
-    }
+    let limits = Limits::new(steps, depth, size).ok_or(Refusal {
+        cause: Cause::Limit,
+        place: 0,
+    })?;
+    run_within(unknowns, arities, equations, words, limits, answers, room)
 }

@@ -2,6 +2,7 @@
 use Prim.Native.Nat.{ℕ, ◌≤◌}
 use mathlib.Core.Path.{◌≡◌, refl, ◌∙◌}
 use mathlib.Core.List.{List, ◌++◌}
+use Rattle.std.proofs.Common.{Result, Ok, Err}
 use native.Mathlib.Omega.{arith}
 use lib.ListN.{length, take, drop, length-append}
 use lib.Seq.{take-append_seam}
@@ -17,8 +18,6 @@ use Rattle.reader.specs.LentBuffers.{ReadGives, answer, laid}
 use Rattle.results.specs.Loans.{ending}
 use Rattle.results.specs.declared.ran.Ending.{Ending}
 use Rattle.results.specs.Result.{RunGives, Told, refuses, gives, told, result}
-use Rattle.results.specs.declared.ran.Ran.{Ran}
-use Rattle.results.specs.declared.ran.Ran.TheVariants.{Ended, Refused}
 use Rattle.guarantees.proofs.Promised.{buffer_after}
 use Rattle.printing.specs.Solved.{STEPS, DEPTH, SIZE, refused, of_list, of_run, of_words, of_reading}
 
@@ -64,13 +63,13 @@ module _ {ns ns_after ws ws_after : List ℕ} where
 
 -- ---- from running to writing
 
-module _ (u : ℕ) (arities : List ℕ) (n : ℕ) (ws : List ℕ) {a answers l room : List ℕ} {back : Ran}
+module _ (u : ℕ) (arities : List ℕ) (n : ℕ) (ws : List ℕ) {a answers l room : List ℕ} {back : Result Ending Refusal}
     (g : RunGives (told u arities n ws STEPS DEPTH SIZE (length a) (length l)) back a answers l room) where
   abbrev told_here : Told
   told_here = told u arities n ws STEPS DEPTH SIZE (length a) (length l)
 
   -- a run ended: the words that it used are within their buffer, and are its list
-  pub run_ended : {e : Ending} → back ≡ Ended e → (e.counts.words ≤ length answers) × (of_run arities told_here ≡ of_list arities e (take e.counts.words answers))
+  pub run_ended : {e : Ending} → back ≡ Ok e → (e.counts.words ≤ length answers) × (of_run arities told_here ≡ of_list arities e (take e.counts.words answers))
   unfolding result ending of_run
   run_ended {e} is = go told_here refl g.told_back
     where
@@ -84,7 +83,7 @@ module _ (u : ℕ) (arities : List ℕ) (n : ℕ) (ws : List ℕ) {a answers l r
           ∙ buffer_after (record { unknowns = u; arities = arities; equations = n; words = ws }) (record { steps = STEPS; depth = DEPTH; size = SIZE; answers = a; room = l }) o s in
           rw (same, held) (within list (drop (length list) a), rw (take-append_seam list (drop (length list) a)) refl)
 
-  pub run_refused : {r : Refusal} → back ≡ Refused r → of_run arities told_here ≡ refused r
+  pub run_refused : {r : Refusal} → back ≡ Err r → of_run arities told_here ≡ refused r
   unfolding result of_run
   run_refused {r} is = go told_here g.told_back
     where

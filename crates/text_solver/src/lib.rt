@@ -6,7 +6,7 @@
 ghost use Rattle.std.specs.Prelude.{◌≡◌, length};
 ghost use Rattle.printing.specs.Solved.{OUTPUT, Prints, printed, of_words, solved};
 
-use mensorique::{Question, Ran, read_question, run};
+use mensorique::{Question, read_question, run};
 use printing::{OUTPUT, print_list, print_refusal};
 use terms::bounds;
 
@@ -45,12 +45,12 @@ fn solve_words(
         &mut answers,
         &mut room,
     ) {
-        Ran::Ended(ending) => {
+        Ok(ending) => {
             let counts = ending.counts;
             let used = counts.words;
             print_list(arities, ending, &answers[..used], output)
         }
-        Ran::Refused(refusal) => print_refusal(refusal, output),
+        Err(refusal) => print_refusal(refusal, output),
     }
 }
 

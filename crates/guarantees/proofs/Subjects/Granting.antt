@@ -1,6 +1,6 @@
 -- When a run is granted, and what it then is: the tests of its limits, its question and its room, and the search. What a call gives back is its outcome's.
 use Rattle.std.specs.Prelude.{ℕ, ◌+◌, ◌*◌, ◌≤◌, ◌≡◌, refl, cond, List, ◌↔◌, ltb, length}
-use Rattle.std.proofs.Common.{ap, arith, ltb-false, le-ltb}
+use Rattle.std.proofs.Common.{ap, arith, ltb-false, le-ltb, Ok}
 use Rattle.room.specs.Layout.{HEADER, SPARE_ROWS}
 use Rattle.terms.specs.Bounds.{edition_one, edition_one_proper}
 use Rattle.terms.specs.Lists.{cases}
@@ -20,7 +20,6 @@ use Rattle.search.specs.Run.{Outcome, ran}
 use Rattle.results.specs.Loans.{loan, needed, ending}
 use Rattle.results.specs.Result.{Told, refuses, gives, told, told_within, result}
 use Rattle.results.specs.declared.ran.Ending.{Ending}
-use Rattle.results.specs.declared.ran.Ran.TheVariants.{Ended}
 use Rattle.guarantees.specs.Calls.{Posed, asked, Lending, loan_of, run_told}
 use Rattle.guarantees.specs.Notions.{Granted}
 use Rattle.guarantees.proofs.Subjects.{impossible}
@@ -69,11 +68,11 @@ granted_exactly q l o = (granted q l o, grants q l o)
 
 -- ---- what a call gives back
 
-pub ended_exactly : (q : Posed) (l : Lending) (e : Ending) → (result (run_told q l) ≡ Ended e) ↔ ((o : Outcome) × (run_told q l ≡ gives o) × (ending o ≡ e))
+pub ended_exactly : (q : Posed) (l : Lending) (e : Ending) → (result (run_told q l) ≡ Ok e) ↔ ((o : Outcome) × (run_told q l ≡ gives o) × (ending o ≡ e))
 unfolding result
-ended_exactly q l e = (go (run_told q l) refl, λ h. rw h.1 (ap Ended h.2))
+ended_exactly q l e = (go (run_told q l) refl, λ h. rw h.1 (ap Ok h.2))
   where
-    go : (t : Told) → run_told q l ≡ t → result t ≡ Ended e → (o : Outcome) × (run_told q l ≡ gives o) × (ending o ≡ e)
+    go : (t : Told) → run_told q l ≡ t → result t ≡ Ok e → (o : Outcome) × (run_told q l ≡ gives o) × (ending o ≡ e)
     go (refuses r) s x = impossible (cc)
     go (gives o) s x = (o, s, cc)
 

@@ -1,7 +1,7 @@
 -- Which numbers of SPECIFICATION 6.2 and 7 an entry may refuse with, and a run may end with.
 use Rattle.std.specs.Prelude.{ℕ, suc, zero, ◌+◌, ◌≡◌, refl, Bool, true, false, cond, List, [], ◌∷◌, ◌++◌, ◌⊎◌, eqb, leb, ltb, length}
 use Rattle.std.proofs.lemmas.Bool.{false≢true}
-use Rattle.std.proofs.Common.{inl, inr}
+use Rattle.std.proofs.Common.{inl, inr, Option, Some, None}
 use Rattle.terms.specs.Bounds.{edition_one}
 use Rattle.terms.specs.Lists.{here, there, cases, Any-left}
 use Rattle.terms.specs.Kind.{kind}
@@ -21,8 +21,6 @@ use Rattle.search.specs.declared.ends.End.TheVariants.{Done, Steps, Depth, Names
 use Rattle.search.specs.declared.ends.Listed.{Listed}
 use Rattle.search.specs.declared.ends.Listed.TheVariants.{As, Nowhere}
 use Rattle.search.specs.declared.limits.Limits.{Limits}
-use Rattle.search.specs.declared.limits.Lent.{Lent}
-use Rattle.search.specs.declared.limits.Lent.TheVariants.{Within, Above}
 use Rattle.search.specs.Ends.{end_number, end_of}
 use Rattle.search.specs.RunLimits.{lent}
 use Rattle.search.specs.Run.{Outcome, ran}
@@ -136,9 +134,9 @@ run_numbers q l r e = go (lent l.steps l.depth l.size) e
     asking limits (Refused s) (told_as h) e = let same : s ≡ r = cc in or_later (7 ∷ []) h same
     asking limits Fine h e = there (there (here (short limits e)))
 
-    go : (x : Lent) → told_within q.unknowns q.arities q.equations q.words (length l.answers) (length l.room) x ≡ refuses r → OneOf (3 ∷ 8 ∷ 7 ∷ []) (number r.cause)
-    go Above e = let z : record { cause = Limit; place = 0 } ≡ r = cc in rw (← z) (here refl)
-    go (Within limits) e = asking limits _ (question_numbered q.unknowns q.arities q.equations q.words) e
+    go : (x : Option Limits) → told_within q.unknowns q.arities q.equations q.words (length l.answers) (length l.room) x ≡ refuses r → OneOf (3 ∷ 8 ∷ 7 ∷ []) (number r.cause)
+    go None e = let z : record { cause = Limit; place = 0 } ≡ r = cc in rw (← z) (here refl)
+    go (Some limits) e = asking limits _ (question_numbered q.unknowns q.arities q.equations q.words) e
 
 written-numbers : {c : Checked} → Numbered (3 ∷ 8 ∷ []) c → (deep : First) (room : ℕ) (text : List ℕ) {r : Refusal} → tested c deep room text ≡ writing.Refused r
     → OneOf (3 ∷ 8 ∷ 6 ∷ 7 ∷ []) (number r.cause)

@@ -1,6 +1,6 @@
 -- Refused calls: each leaves the buffers lent to it as they were.
 use Rattle.std.specs.Prelude.{ℕ, ◌≡◌, refl, List}
-use Rattle.std.proofs.Common.{ap, ◌∙◌}
+use Rattle.std.proofs.Common.{ap, ◌∙◌, Err}
 use Rattle.room.specs.Room.{put-nil}
 use Rattle.terms.specs.declared.refusal.Refusal.{Refusal}
 use Rattle.numerals.specs.TextReading.{Reading, read, refused}
@@ -10,7 +10,6 @@ use Rattle.results.specs.declared.read.Question.TheVariants as reading
 use Rattle.writer.specs.Written.{held}
 use Rattle.results.specs.declared.written.Written.TheVariants as writing
 use Rattle.results.specs.Result.{Told, refuses, gives, result, words_told}
-use Rattle.results.specs.declared.ran.Ran.TheVariants as running
 use Rattle.guarantees.specs.Calls.{Posed, Lending, run_told, answers_after, question_told, question_after, list_told, list_after, text_told, arities_after, words_after}
 use Rattle.guarantees.proofs.Subjects.{impossible}
 
@@ -32,10 +31,10 @@ pub list-refused : (arities : List ℕ) (end visited answers : ℕ) (words buffe
 unfolding held
 list-refused arities end visited answers words buffer r e = rw e
 
-pub run_refused : (q : Posed) (l : Lending) (r : Refusal) → result (run_told q l) ≡ running.Refused r → (run_told q l ≡ refuses r) × (answers_after q l ≡ l.answers)
+pub run_refused : (q : Posed) (l : Lending) (r : Refusal) → result (run_told q l) ≡ Err r → (run_told q l ≡ refuses r) × (answers_after q l ≡ l.answers)
 unfolding result words_told
 run_refused q l r e = go (run_told q l) refl e
   where
-    go : (t : Told) → run_told q l ≡ t → result t ≡ running.Refused r → (run_told q l ≡ refuses r) × (answers_after q l ≡ l.answers)
+    go : (t : Told) → run_told q l ≡ t → result t ≡ Err r → (run_told q l ≡ refuses r) × (answers_after q l ≡ l.answers)
     go (gives o) s e = impossible (cc)
     go (refuses s) t e = let same : s ≡ r = cc in (t ∙ ap refuses same, rw t (put-nil l.answers 0))

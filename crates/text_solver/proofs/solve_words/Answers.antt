@@ -6,17 +6,17 @@ use Rattle.text_solver.proofs.Handing.{run_ended, run_refused}
 use Rattle.text_solver.proofs.solve_words.Goals as goal
 
 pub slice_bounds-answers-end : goal.slice_bounds-answers-end
-slice_bounds-answers-end c = (run_ended _ _ _ _ c.run.ensures c.in-Ended.is).0
+slice_bounds-answers-end c = (run_ended _ _ _ _ c.run.ensures c.in-Ok.is).0
 
 pub slice_bounds-print_list-end : goal.slice_bounds-print_list-end
-slice_bounds-print_list-end c = sym (length-take-le _ _ (run_ended _ _ _ _ c.run.ensures c.in-Ended.is).0)
+slice_bounds-print_list-end c = sym (length-take-le _ _ (run_ended _ _ _ _ c.run.ensures c.in-Ok.is).0)
 
-pub returns-in-Ended : goal.returns-in-Ended
+pub returns-in-Ok : goal.returns-in-Ok
 unfolding of_words
-returns-in-Ended c =
-    rw (run_ended _ _ _ _ c.run.ensures c.in-Ended.is).1 c.print_list.ensures
+returns-in-Ok c =
+    rw (run_ended _ _ _ _ c.run.ensures c.in-Ok.is).1 c.print_list.ensures
 
-pub returns-in-Refused : goal.returns-in-Refused
+pub returns-in-Err : goal.returns-in-Err
 unfolding of_words
-returns-in-Refused c =
-    rw (run_refused _ _ _ _ c.run.ensures c.in-Refused.is) c.print_refusal.ensures
+returns-in-Err c =
+    rw (run_refused _ _ _ _ c.run.ensures c.in-Err.is) c.print_refusal.ensures
