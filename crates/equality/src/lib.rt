@@ -15,24 +15,18 @@ ghost use Rattle.equality.specs.Answering.{equal_answer, solves_answer};
 
 use holding::hold::{all_hold, values_hold};
 use lent_words::{check_question, check_row};
-use results::compared::{Equality, Solving};
 use room::copy_in;
 use term_places::classes::blank;
 use terms::bounds::UNKNOWNS;
 use terms::refusal::{Checked, Refusal};
 
 // Are the two ground terms of a row equal?
-pub fn equal(arities: &[u8], row: &[u16]) -> Equality
+pub fn equal(arities: &[u8], row: &[u16]) -> Result<bool, Refusal>
     ensures { result ≡ equal_answer edition_one arities.now row.now }
 {
     match check_row(arities, 2, row) {
-        Checked::Fine => {
-            if both_equal(arities, row) {
-                return Equality::Equal;
-            }
-            Equality::Differ
-        }
-        Checked::Refused(refusal) => Equality::Refused(refusal),
+        Checked::Fine => Ok(both_equal(arities, row)),
+        Checked::Refused(refusal) => Err(refusal),
     }
 }
 
@@ -54,20 +48,15 @@ pub fn solves(
     equations: usize,
     words: &[u16],
     row: &[u16],
-) -> Solving
+) -> Result<bool, Refusal>
     ensures { result ≡ solves_answer edition_one unknowns arities.now equations words.now row.now }
 {
     match check_question(unknowns, arities, equations, words) {
         Checked::Fine => match check_row(arities, unknowns, row) {
-            Checked::Fine => {
-                if values_solve(unknowns, arities, equations, words, row) {
-                    return Solving::Yes;
-                }
-                Solving::No
-            }
-            Checked::Refused(refusal) => Solving::Refused(refusal),
+            Checked::Fine => Ok(values_solve(unknowns, arities, equations, words, row)),
+            Checked::Refused(refusal) => Err(refusal),
         },
-        Checked::Refused(refusal) => Solving::Refused(refusal),
+        Checked::Refused(refusal) => Err(refusal),
     }
 }
 
