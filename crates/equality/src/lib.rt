@@ -17,6 +17,7 @@ use holding::hold::{all_hold, values_hold};
 use lent_words::{check_question, check_row};
 use room::copy_in;
 use term_places::classes::blank;
+use term_places::places::Held;
 use terms::bounds::UNKNOWNS;
 use terms::refusal::{Checked, Refusal};
 
@@ -35,10 +36,14 @@ fn both_equal(arities: &[u8], row: &[u16]) -> bool
     requires { check_row edition_one arities.now 2 row.now ≡ Fine }
     ensures { result ≡ test (top (read edition_one arities.now row.now)) (top (drop 1 (read edition_one arities.now row.now))) }
 {
-    let starts = [0u16; 1];
+    let held = Held {
+        arities,
+        words: row,
+        starts: &[],
+    };
     let mut labels = blank();
     let n = row.len();
-    all_hold(arities, row, &starts[..0], &mut labels[..n], 1)
+    all_hold(&held, &mut labels[..n], 1)
 }
 
 // Do a row's ground values, one for each unknown in order, solve a question?
