@@ -42,11 +42,8 @@ fn compare(held: &Held, settled: &[u16], labels: &mut [u16], p: usize, q: usize)
 {
     let k = held.kernel(p);
     let l = held.kernel(q);
-    if kernels(held, settled, labels, k, l) {
-        if each_meets(held, settled, labels, p, q) {
-            return covers(held, labels, p, q);
-        }
-        return false;
+    if kernels(held, settled, labels, k, l) && each_meets(held, settled, labels, p, q) {
+        return covers(held, labels, p, q);
     }
     false
 }

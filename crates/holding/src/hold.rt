@@ -2,9 +2,9 @@
 ghost use Rattle.std.specs.Prelude.{◌≡◌, length};
 ghost use Rattle.terms.specs.Bounds.{edition_one};
 ghost use Rattle.laws.specs.Values.{in_order};
-ghost use Rattle.term_places.specs.Places.{values, terms_from};
+ghost use Rattle.term_places.specs.Places.{terms_from};
 ghost use Rattle.term_places.specs.Lent.{of};
-ghost use Rattle.holding.specs.Holding.{holding, starts_from, Equations, Standings, WithValues};
+ghost use Rattle.holding.specs.Holding.{holding, all_holding, starts_from, Equations, Standings, WithValues};
 ghost use Rattle.settling.specs.Settling.{AllSettled};
 
 use crate::spread::spreads_little;
@@ -18,7 +18,7 @@ use term_places::places::{Held, term_end};
 fn each_holds(held: &Held, settled: &[u16], labels: &mut [u16], equations: usize) -> bool
     requires equations { Equations (of held.now) labels.old equations }
     requires all_settled { AllSettled (of held.now) settled.now labels.old }
-    ensures { result ≡ holding (values (of held.now)) equations (terms_from edition_one held.now.arities.now held.now.words.now 0) }
+    ensures { result ≡ all_holding (of held.now) equations }
 {
     let mut left: usize = 0;
     for _ in 0..equations {
@@ -41,7 +41,7 @@ fn each_holds(held: &Held, settled: &[u16], labels: &mut [u16], equations: usize
 // The same where no term is shared by many places.
 pub fn all_hold(held: &Held, labels: &mut [u16], equations: usize) -> bool
     requires { Equations (of held.now) labels.old equations }
-    ensures { result ≡ holding (values (of held.now)) equations (terms_from edition_one held.now.arities.now held.now.words.now 0) }
+    ensures { result ≡ all_holding (of held.now) equations }
 {
     number(labels);
     each_holds(held, &[], labels, equations)
@@ -58,7 +58,7 @@ fn settled_in(
     requires equations { Equations (of held.now) labels.old equations }
     requires ranks_len { length ranks.old ≡ length held.now.words.now }
     requires settled_len { length settled.old ≡ length held.now.words.now }
-    ensures { result ≡ holding (values (of held.now)) equations (terms_from edition_one held.now.arities.now held.now.words.now 0) }
+    ensures { result ≡ all_holding (of held.now) equations }
 {
     number(labels);
     clear(ranks);
@@ -71,7 +71,7 @@ fn settled_in(
 // The same where places are settled first.
 fn settled_hold(held: &Held, labels: &mut [u16], equations: usize) -> bool
     requires { Equations (of held.now) labels.old equations }
-    ensures { result ≡ holding (values (of held.now)) equations (terms_from edition_one held.now.arities.now held.now.words.now 0) }
+    ensures { result ≡ all_holding (of held.now) equations }
 {
     let mut ranks = blank();
     let mut settled = blank();

@@ -17,7 +17,7 @@ pub struct Held<'a> {
     pub starts: &'a [u16],
 }
 
-// Where the term at p ends.
+// Where the term at p ends, for words whose values are not all noted yet; `Held` has it for the others.
 pub fn term_end(arities: &[u8], words: &[u16], p: usize) -> usize
     requires { Within edition_one arities.now words.now p }
     ensures { result ≡ end edition_one arities.now words.now p }

@@ -10,7 +10,7 @@ use Rattle.compare.proofs.Matching.{matching_start, matching_end, matching_opene
 use Rattle.compare.proofs.Arguing.{arguing_differ, arguing_start, arguing_end, left_inside, right_inside, arguing_asks, arguing_falls, arguing_no, arguing_on}
 use Rattle.compare.proofs.Comparing.{kernels_fall, compare_kernels, kernels_no, compare_members, members_no, compare_back, compared, same_label, settled_apart, not_same, now_same}
 use Rattle.compare.proofs.compare.+compare_each_meets_kernels_meets_same.Goals as goal
-use Rattle.compare.proofs.compare.+compare_each_meets_kernels_meets_same.Goals.{meets-then-same, meets-else-same}
+use Rattle.compare.proofs.compare.+compare_each_meets_kernels_meets_same.Goals.{meets-then-same, meets-else-same, compare-else-kernels-via-then-kernels+else-each_meets, compare-else-kernels-via-else-kernels}
 
 -- ---- compare
 pub compare-kernel-k-requires : goal.compare-kernel-k-requires
@@ -39,29 +39,21 @@ compare-covers-requires t c =
     compare_back c.requires.comparing c.kernel-k.ensures c.kernel-l.ensures c.kernels.ensures c.if-kernels.true
     c.each_meets.ensures c.if-each_meets.true
 
-pub compare-shape_of-labels-then-each_meets : goal.compare-shape_of-labels-then-each_meets
-compare-shape_of-labels-then-each_meets t c =
-    c.each_meets.auto.labels ∙ c.kernels.auto.labels
-
 pub compare-returns-then-each_meets : goal.compare-returns-then-each_meets
 compare-returns-then-each_meets t c =
     compared c.requires.comparing c.kernel-k.ensures c.kernel-l.ensures c.kernels.ensures c.if-kernels.true
     c.each_meets.ensures c.if-each_meets.true c.covers.ensures
 
-pub compare-shape_of-labels-then-kernels : goal.compare-shape_of-labels-then-kernels
-compare-shape_of-labels-then-kernels t c = c.each_meets.auto.labels ∙ c.kernels.auto.labels
-
-pub compare-returns-then-kernels : goal.compare-returns-then-kernels
-compare-returns-then-kernels t c =
-    members_no c.requires.comparing c.kernel-k.ensures c.kernel-l.ensures c.kernels.ensures c.if-kernels.true
-    c.each_meets.ensures c.if-each_meets.false
-
-pub compare-shape_of-labels : goal.compare-shape_of-labels
-compare-shape_of-labels t c = c.kernels.auto.labels
-
 pub compare-returns : goal.compare-returns
 compare-returns t c =
-    kernels_no c.requires.comparing c.kernel-k.ensures c.kernel-l.ensures c.kernels.ensures c.if-kernels.false
+    elim c.else-kernels.branch [
+      | compare-else-kernels-via-then-kernels+else-each_meets w ↦
+          rw w.labels-is
+          (members_no c.requires.comparing c.kernel-k.ensures c.kernel-l.ensures c.kernels.ensures w.if-kernels.true
+          w.each_meets.ensures w.if-each_meets.false)
+      | compare-else-kernels-via-else-kernels w ↦
+          rw w.labels-is (kernels_no c.requires.comparing c.kernel-k.ensures c.kernel-l.ensures c.kernels.ensures w.if-kernels.false)
+    ]
 
 pub each_meets-loop-x-init : goal.each_meets-loop-x-init
 each_meets-loop-x-init t c = matching_start c.requires.comparing
