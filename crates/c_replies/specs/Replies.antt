@@ -1,6 +1,6 @@
 -- What a C caller is told: a status, and the later value of each out number. Where a call is granted its numbers are written in the order of the
 -- parameters and the place is left alone; a refusal writes the place and leaves the others alone.
-use Rattle.std.specs.Prelude.{ℕ, ◌≡◌, List, [], ◌∷◌, Result, Ok, Err}
+use Rattle.std.specs.Prelude.{ℕ, ◌≡◌, List, [], ◌∷◌, Result, Ok, Err, Bool, true, false}
 use Rattle.terms.specs.Refusal.{number}
 use Rattle.terms.specs.declared.refusal.Refusal.{Refusal}
 use Rattle.search.specs.Ends.{end_number}
@@ -8,10 +8,6 @@ use Rattle.results.specs.declared.read.Question.{Question}
 use Rattle.results.specs.declared.read.Question.TheVariants as question
 use Rattle.results.specs.declared.written.Written.{Written}
 use Rattle.results.specs.declared.written.Written.TheVariants as written
-use Rattle.results.specs.declared.compared.Equality.{Equality}
-use Rattle.results.specs.declared.compared.Equality.TheVariants as equality
-use Rattle.results.specs.declared.compared.Solving.{Solving}
-use Rattle.results.specs.declared.compared.Solving.TheVariants as solving
 use Rattle.results.specs.declared.ran.Ending.{Ending}
 
 pub data Reply : Type 0 where
@@ -51,17 +47,11 @@ abbrev pub of_written : Written → Reply
 of_written (written.Length length) = granted (length ∷ [])
 of_written (written.Refused refusal) = refused refusal
 
--- 1 where they are equal, 0 where they differ
-abbrev pub of_equality : Equality → Reply
-of_equality equality.Equal = granted (1 ∷ [])
-of_equality equality.Differ = granted (0 ∷ [])
-of_equality (equality.Refused refusal) = refused refusal
-
--- 1 where the values solve the question, 0 where they don't
-abbrev pub of_solving : Solving → Reply
-of_solving solving.Yes = granted (1 ∷ [])
-of_solving solving.No = granted (0 ∷ [])
-of_solving (solving.Refused refusal) = refused refusal
+-- 1 where two terms are equal, or values solve a question, and 0 where they differ or don't
+abbrev pub of_verdict : Result Bool Refusal → Reply
+of_verdict (Ok true) = granted (1 ∷ [])
+of_verdict (Ok false) = granted (0 ∷ [])
+of_verdict (Err refusal) = refused refusal
 
 -- the end's number, nodes visited, answers, words
 abbrev pub of_ran : Result Ending Refusal → Reply

@@ -2,39 +2,20 @@
 #![tactic(auto)]
 
 ghost use Rattle.std.specs.Prelude.{[], ◌∷◌};
-ghost use Rattle.c_replies.specs.Replies.{Replied, of_equality, of_solving};
+ghost use Rattle.c_replies.specs.Replies.{Replied, of_verdict};
 
 use c_replies::tell_refusal;
-use results::compared::{Equality, Solving};
+use terms::refusal::Refusal;
 
-pub fn tell_equality(equality: Equality, equal: &mut u32, place: &mut usize) -> u32
-    ensures { Replied (of_equality equality) result (equal.old ∷ []) (equal.new ∷ []) place.old place.new }
+// Whether two terms are equal, or values solve a question.
+pub fn tell_verdict(verdict: Result<bool, Refusal>, told: &mut u32, place: &mut usize) -> u32
+    ensures { Replied (of_verdict verdict) result (told.old ∷ []) (told.new ∷ []) place.old place.new }
 {
-    match equality {
-        Equality::Equal => {
-            *equal = 1;
+    match verdict {
+        Ok(yes) => {
+            *told = u32::from(yes);
             0
         }
-        Equality::Differ => {
-            *equal = 0;
-            0
-        }
-        Equality::Refused(refusal) => tell_refusal(refusal, place),
-    }
-}
-
-pub fn tell_solving(solving: Solving, solves: &mut u32, place: &mut usize) -> u32
-    ensures { Replied (of_solving solving) result (solves.old ∷ []) (solves.new ∷ []) place.old place.new }
-{
-    match solving {
-        Solving::Yes => {
-            *solves = 1;
-            0
-        }
-        Solving::No => {
-            *solves = 0;
-            0
-        }
-        Solving::Refused(refusal) => tell_refusal(refusal, place),
+        Err(refusal) => tell_refusal(refusal, place),
     }
 }

@@ -27,18 +27,19 @@ module _ {h : Held} {labels : List ℕ} {p q : ℕ} (c : ComparingKernels h labe
       let a = c.comparing in
       told_since (since_start a.classes) (sym (words_differ a.placed (kernel_at a.placed a.left c.left_closed) (kernel_at a.placed a.right c.right_closed) n))
 
-  pub arguing_start : get_or h.words p 0 ≡ get_or h.words q 0 → Arguing h labels labels p q (p + 1) (q + 1) (takes h.bounds h.arities (get_or h.words p 0))
+  pub arguing_start : {m : ℕ} → get_or h.words p 0 ≡ get_or h.words q 0 → m ≡ takes h.bounds h.arities (get_or h.words p 0) → Arguing h labels labels p q (p + 1) (q + 1) m
   unfolding following
-  arguing_start e =
+  arguing_start e n =
       let a = c.comparing in
       let f : following h q ≡ following h p = ap (takes h.bounds h.arities) (sym e) in
-      record {
+      rw n
+      (record {
         placed = a.placed;
         since = since_start a.classes;
         so_far = words_agree a.placed (kernel_at a.placed a.left c.left_closed) (kernel_at a.placed a.right c.right_closed) e;
         left = left-first a.placed a.left c.left_closed;
         right = rw f at (left-first a.placed a.right c.right_closed);
-      }
+      })
 
 module _ {h : Held} {before labels : List ℕ} {p q x y m : ℕ} (w : Arguing h before labels p q x y m) where
   pub arguing_end : m ≡ 0 → Told h before labels (kernels_equal (valued h p) (valued h q)) true
@@ -77,12 +78,13 @@ module _ {h : Held} {before labels : List ℕ} {p q x y m : ℕ} (w : Arguing h 
       pub arguing_no : r ≡ false → Told h before after (kernels_equal (valued h p) (valued h q)) false
       arguing_no f = told_since (since_told w.since s.told) (sym (by_first ∙ rw f))
 
-      pub arguing_on : r ≡ true → Arguing h before after p q (end h.bounds h.arities h.words x) (end h.bounds h.arities h.words y) (m - 1)
-      arguing_on t =
-          record {
+      pub arguing_on : {k : ℕ} → r ≡ true → k ≡ m - 1 → Arguing h before after p q (end h.bounds h.arities h.words x) (end h.bounds h.arities h.words y) k
+      arguing_on t e =
+          rw e
+          (record {
             placed = w.placed;
             since = since_told w.since s.told;
             so_far = by_first ∙ rw t;
             left = left-next w.placed w.left z;
             right = left-next w.placed w.right z;
-          }
+          })

@@ -15,24 +15,19 @@ ghost use Rattle.equality.specs.Answering.{equal_answer, solves_answer};
 
 use holding::hold::{all_hold, values_hold};
 use lent_words::{check_question, check_row};
-use results::compared::{Equality, Solving};
 use room::copy_in;
 use term_places::classes::blank;
+use term_places::places::Held;
 use terms::bounds::UNKNOWNS;
 use terms::refusal::{Checked, Refusal};
 
 // Are the two ground terms of a row equal?
-pub fn equal(arities: &[u8], row: &[u16]) -> Equality
+pub fn equal(arities: &[u8], row: &[u16]) -> Result<bool, Refusal>
     ensures { result ≡ equal_answer edition_one arities.now row.now }
 {
     match check_row(arities, 2, row) {
-        Checked::Fine => {
-            if both_equal(arities, row) {
-                return Equality::Equal;
-            }
-            Equality::Differ
-        }
-        Checked::Refused(refusal) => Equality::Refused(refusal),
+        Checked::Fine => Ok(both_equal(arities, row)),
+        Checked::Refused(refusal) => Err(refusal),
     }
 }
 
@@ -41,10 +36,14 @@ fn both_equal(arities: &[u8], row: &[u16]) -> bool
     requires { check_row edition_one arities.now 2 row.now ≡ Fine }
     ensures { result ≡ test (top (read edition_one arities.now row.now)) (top (drop 1 (read edition_one arities.now row.now))) }
 {
-    let starts = [0u16; 1];
+    let held = Held {
+        arities,
+        words: row,
+        starts: &[],
+    };
     let mut labels = blank();
     let n = row.len();
-    all_hold(arities, row, &starts[..0], &mut labels[..n], 1)
+    all_hold(&held, &mut labels[..n], 1)
 }
 
 // Do a row's ground values, one for each unknown in order, solve a question?
@@ -54,20 +53,15 @@ pub fn solves(
     equations: usize,
     words: &[u16],
     row: &[u16],
-) -> Solving
+) -> Result<bool, Refusal>
     ensures { result ≡ solves_answer edition_one unknowns arities.now equations words.now row.now }
 {
     match check_question(unknowns, arities, equations, words) {
         Checked::Fine => match check_row(arities, unknowns, row) {
-            Checked::Fine => {
-                if values_solve(unknowns, arities, equations, words, row) {
-                    return Solving::Yes;
-                }
-                Solving::No
-            }
-            Checked::Refused(refusal) => Solving::Refused(refusal),
+            Checked::Fine => Ok(values_solve(unknowns, arities, equations, words, row)),
+            Checked::Refused(refusal) => Err(refusal),
         },
-        Checked::Refused(refusal) => Solving::Refused(refusal),
+        Checked::Refused(refusal) => Err(refusal),
     }
 }
 

@@ -5,7 +5,7 @@
 -- has questions and when they are good, laws/specs/Laws when terms are equal, laws/specs/Values when values solve, answers/specs/Fits what it is to meet and to fit
 -- an answer, search/specs/Run the published search, promises/specs/Wording when a loan is no less than another, terms/specs/Refusal and search/specs/Ends the
 -- numbers of refusals and ends.
-use Rattle.std.specs.Prelude.{ℕ, suc, ◌≤◌, ◌<◌, ◌≡◌, List, [], ◌∷◌, ◌++◌, map, ◌↔◌, ◌⊎◌, length, take, drop}
+use Rattle.std.specs.Prelude.{ℕ, suc, ◌≤◌, ◌<◌, ◌≡◌, List, [], ◌∷◌, ◌++◌, map, ◌↔◌, ◌⊎◌, length, take, drop, true, false, Ok, Err}
 use Rattle.std.proofs.Common.{Ok, Err}
 use Rattle.terms.specs.Bounds.{edition_one, NESTING, BYTES}
 use Rattle.terms.specs.Lists.{All, Any}
@@ -32,8 +32,6 @@ use Rattle.word_writer.specs.Depths.{all_within}
 use Rattle.writer.specs.Written.{too_deep_in, too_deep_in_list}
 use Rattle.results.specs.declared.written.Written.TheVariants as writing
 use Rattle.equality.specs.Answering.{equal_answer}
-use Rattle.results.specs.declared.compared.Equality.TheVariants as equality
-use Rattle.results.specs.declared.compared.Solving.TheVariants as solving
 use Rattle.results.specs.Loans.{ending}
 use Rattle.results.specs.Result.{gives, refuses, result}
 use Rattle.results.specs.declared.ran.Ending.{Ending}
@@ -171,17 +169,17 @@ answers_nest = nests.answers_nest
 -- ---- 7. ground terms
 
 -- equal exactly if the row holds two ground terms that are equal by the laws; differ exactly if it holds two that aren't
-pub equal_exactly : (arities row : List ℕ) → (equal_answer edition_one arities row ≡ equality.Equal) ↔ Compared arities row ◌≈◌
+pub equal_exactly : (arities row : List ℕ) → (equal_answer edition_one arities row ≡ Ok true) ↔ Compared arities row ◌≈◌
 equal_exactly = comparing.equal_exactly
 
-pub differ_exactly : (arities row : List ℕ) → (equal_answer edition_one arities row ≡ equality.Differ) ↔ Compared arities row (λ t u. t ≈ u → ⊥)
+pub differ_exactly : (arities row : List ℕ) → (equal_answer edition_one arities row ≡ Ok false) ↔ Compared arities row (λ t u. t ≈ u → ⊥)
 differ_exactly = comparing.differ_exactly
 
 -- yes exactly if the words ask a good question and the row holds one ground value for each unknown, which solve it by the laws; no exactly if they don't solve it
-pub yes_exactly : (q : Posed) (row : List ℕ) → (solves_told q row ≡ solving.Yes) ↔ Tried q row (λ σ. Solves σ (asked q).equations)
+pub yes_exactly : (q : Posed) (row : List ℕ) → (solves_told q row ≡ Ok true) ↔ Tried q row (λ σ. Solves σ (asked q).equations)
 yes_exactly = comparing.yes_exactly
 
-pub no_exactly : (q : Posed) (row : List ℕ) → (solves_told q row ≡ solving.No) ↔ Tried q row (λ σ. Solves σ (asked q).equations → ⊥)
+pub no_exactly : (q : Posed) (row : List ℕ) → (solves_told q row ≡ Ok false) ↔ Tried q row (λ σ. Solves σ (asked q).equations → ⊥)
 no_exactly = comparing.no_exactly
 
 -- ---- 8. a refused call leaves every lent buffer as it was; equal and solves are lent none to write
@@ -221,10 +219,10 @@ pub list-numbers : (arities : List ℕ) (end visited answers : ℕ) (words buffe
     → OneOf (3 ∷ 8 ∷ 6 ∷ 7 ∷ []) (number r.cause)
 list-numbers = numbers.list-numbers
 
-pub equal-numbers : (arities row : List ℕ) (r : Refusal) → equal_answer edition_one arities row ≡ equality.Refused r → OneOf (3 ∷ 8 ∷ []) (number r.cause)
+pub equal-numbers : (arities row : List ℕ) (r : Refusal) → equal_answer edition_one arities row ≡ Err r → OneOf (3 ∷ 8 ∷ []) (number r.cause)
 equal-numbers = numbers.equal-numbers
 
-pub solves_numbers : (q : Posed) (row : List ℕ) (r : Refusal) → solves_told q row ≡ solving.Refused r → OneOf (3 ∷ 8 ∷ []) (number r.cause)
+pub solves_numbers : (q : Posed) (row : List ℕ) (r : Refusal) → solves_told q row ≡ Err r → OneOf (3 ∷ 8 ∷ []) (number r.cause)
 solves_numbers = numbers.solves_numbers
 
 pub run_numbers : (q : Posed) (l : Lending) (r : Refusal) → run_told q l ≡ refuses r → OneOf (3 ∷ 8 ∷ 7 ∷ []) (number r.cause)

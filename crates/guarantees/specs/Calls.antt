@@ -1,9 +1,10 @@
 -- What is lent to a call, and what the contracts in crates/mensorique/src/lib.rt say of it, in their very terms: `told`, `words_told`, `question_written`,
 -- `held` and so on, for each entry what it gives back and what its buffers hold afterwards. `equal` needs no name: its contract is `equal_answer` alone.
-use Rattle.std.specs.Prelude.{ℕ, List, length}
+use Rattle.std.specs.Prelude.{ℕ, List, Bool, Result, length}
 use Rattle.room.specs.Room.{put}
 use Rattle.terms.specs.Bounds.{edition_one}
 use Rattle.terms.specs.Formed.{Question, sides, row}
+use Rattle.terms.specs.declared.refusal.Refusal.{Refusal}
 use Rattle.terms.specs.Answers.{listed}
 use Rattle.terms.specs.Listing.{answers_of}
 use Rattle.terms.specs.Reading.{question_of}
@@ -16,7 +17,6 @@ use Rattle.question_reader.specs.Questions as reader
 use Rattle.writer.specs.Written.{held, question_written, list_written, text_of_list}
 use Rattle.results.specs.declared.written.Written.{Written}
 use Rattle.equality.specs.Answering.{solves_answer}
-use Rattle.results.specs.declared.compared.Solving.{Solving}
 use Rattle.results.specs.Result.{Told, told, words_told}
 
 -- ---- what is lent
@@ -79,7 +79,7 @@ list_after arities end visited answers words buffer =
     held (list_told arities end visited answers words buffer) (text_of_list (end_of end) visited (answers_of edition_one arities answers words)) buffer
 
 -- solves, of the values in a row
-abbrev pub solves_told : Posed → List ℕ → Solving
+abbrev pub solves_told : Posed → List ℕ → Result Bool Refusal
 solves_told q row = solves_answer edition_one q.unknowns q.arities q.equations q.words row
 
 -- read_question, into two buffers: what is read, of which `answer` is given back, and the buffers afterwards

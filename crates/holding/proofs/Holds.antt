@@ -58,8 +58,8 @@ pub record Holds (h : Held) (settled labels : List ℕ) (m x due : ℕ) : Type 0
   pub so_far : holding (values h) m (terms_from h.bounds h.arities h.words 0) ≡ holding (values h) due (terms_from h.bounds h.arities h.words x)
   pub enough : 2 * due ≤ length (terms_from h.bounds h.arities h.words x)
 
-pub holds-start : {h : Held} {settled labels : List ℕ} {m : ℕ} → Equations h labels m → AllSettled h settled labels → Holds h settled labels m 0 m
-holds-start e a = record { placed = e.placed; classes = a.classes; apart = a.apart; so_far = refl; enough = e.enough }
+pub holds-start : {h : Held} {settled labels : List ℕ} {m due : ℕ} → Equations h labels m → AllSettled h settled labels → due ≡ m → Holds h settled labels m 0 due
+holds-start e a n = rw n (record { placed = e.placed; classes = a.classes; apart = a.apart; so_far = refl; enough = e.enough })
 
 pub relabelled-equations : {h : Held} {before labels : List ℕ} {m : ℕ} → Equations h before m → length labels ≡ length before → Equations h labels m
 relabelled-equations e l = record { placed = e.placed; enough = e.enough; long = l ∙ e.long; few = e.few }
@@ -111,12 +111,13 @@ module _ {h : Held} {settled labels : List ℕ} {m x due : ℕ} (w : Holds h set
       pub holds_no : r ≡ false → holding (values h) m (terms_from h.bounds h.arities h.words 0) ≡ false
       holds_no f = by_first ∙ rw f
 
-      pub holds_on : r ≡ true → Holds h settled after m (end h.bounds h.arities h.words (end h.bounds h.arities h.words x)) (due - 1)
-      holds_on f =
-          record {
+      pub holds_on : {k : ℕ} → r ≡ true → k ≡ due - 1 → Holds h settled after m (end h.bounds h.arities h.words (end h.bounds h.arities h.words x)) k
+      holds_on f n =
+          rw n
+          (record {
             placed = w.placed;
             classes = s.told.classes;
             apart = settled-told w.classes s.told w.apart;
             so_far = by_first ∙ rw f;
             enough = let e = w.enough in omega (arith, next-length w.placed.terms x left_in, next-length w.placed.terms _ right_in);
-          }
+          })

@@ -8,12 +8,16 @@ use Rattle.terms.specs.Reading.{top}
 use Rattle.terms.specs.Term.{Term}
 use Rattle.laws.specs.Equal.{equal}
 use Rattle.laws.specs.Values.{Values, value}
-use Rattle.term_places.specs.Places.{Held, Placed, terms_from, end, Terms, PLACES}
+use Rattle.term_places.specs.Places.{Held, Placed, values, terms_from, end, Terms, PLACES}
 
 -- do the first m equations hold?
 unfoldable pub holding : Values → ℕ → List Term → Bool
 holding σ zero ts = true
 holding σ (suc m) ts = equal (value σ (top ts)) (value σ (top (drop 1 ts))) && holding σ m (drop 2 ts)
+
+-- do the first m that stand at the start of the words?
+abbrev pub all_holding : Held → ℕ → Bool
+all_holding h m = holding (values h) m (terms_from h.bounds h.arities h.words 0)
 
 -- the places of the first m terms from a place on
 unfoldable pub starts_from : Bounds → List ℕ → List ℕ → ℕ → ℕ → List ℕ

@@ -2,8 +2,9 @@
 ghost use Rattle.std.specs.Prelude.{◌≡◌, length};
 ghost use Rattle.terms.specs.Bounds.{edition_one};
 ghost use Rattle.laws.specs.Values.{in_order};
-ghost use Rattle.term_places.specs.Places.{held, values, terms_from};
-ghost use Rattle.holding.specs.Holding.{holding, starts_from, Equations, Standings, WithValues};
+ghost use Rattle.term_places.specs.Places.{terms_from};
+ghost use Rattle.term_places.specs.Lent.{of};
+ghost use Rattle.holding.specs.Holding.{holding, all_holding, starts_from, Equations, Standings, WithValues};
 ghost use Rattle.settling.specs.Settling.{AllSettled};
 
 use crate::spread::spreads_little;
@@ -11,36 +12,25 @@ use compare::compare::same;
 use ranks::ranks::rank_all;
 use settling::settle::settle;
 use term_places::classes::{blank, clear, number};
-use term_places::places::{resolve, term_end};
+use term_places::places::{Held, term_end};
 
 // Do the first so many equations of the words hold?
-fn each_holds(
-    arities: &[u8],
-    words: &[u16],
-    starts: &[u16],
-    settled: &[u16],
-    labels: &mut [u16],
-    equations: usize,
-) -> bool
-    requires equations { Equations (held arities.now words.now starts.now) labels.old equations }
-    requires all_settled { AllSettled (held arities.now words.now starts.now) settled.now labels.old }
-    ensures { result ≡ holding (values (held arities.now words.now starts.now)) equations (terms_from edition_one arities.now words.now 0) }
+fn each_holds(held: &Held, settled: &[u16], labels: &mut [u16], equations: usize) -> bool
+    requires equations { Equations (of held.now) labels.old equations }
+    requires all_settled { AllSettled (of held.now) settled.now labels.old }
+    ensures { result ≡ all_holding (of held.now) equations }
 {
     let mut left: usize = 0;
-    let mut due = equations;
-    while 0 < due {
-        let right = term_end(arities, words, left);
+    for _ in 0..equations {
+        let right = held.term_end(left);
         if same(
-            arities,
-            words,
-            starts,
+            held,
             settled,
             labels,
-            resolve(words, starts, left),
-            resolve(words, starts, right),
+            held.resolve(left),
+            held.resolve(right),
         ) {
-            left = term_end(arities, words, right);
-            due -= 1;
+            left = held.term_end(right);
         } else {
             return false;
         }
@@ -49,66 +39,44 @@ fn each_holds(
 }
 
 // The same where no term is shared by many places.
-pub fn all_hold(
-    arities: &[u8],
-    words: &[u16],
-    starts: &[u16],
-    labels: &mut [u16],
-    equations: usize,
-) -> bool
-    requires { Equations (held arities.now words.now starts.now) labels.old equations }
-    ensures { result ≡ holding (values (held arities.now words.now starts.now)) equations (terms_from edition_one arities.now words.now 0) }
+pub fn all_hold(held: &Held, labels: &mut [u16], equations: usize) -> bool
+    requires { Equations (of held.now) labels.old equations }
+    ensures { result ≡ all_holding (of held.now) equations }
 {
     number(labels);
-    each_holds(arities, words, starts, &starts[..0], labels, equations)
+    each_holds(held, &[], labels, equations)
 }
 
 // The same in tables lent for it.
 fn settled_in(
-    arities: &[u8],
-    words: &[u16],
-    starts: &[u16],
+    held: &Held,
     ranks: &mut [u16],
     settled: &mut [u16],
     labels: &mut [u16],
     equations: usize,
 ) -> bool
-    requires equations { Equations (held arities.now words.now starts.now) labels.old equations }
-    requires ranks_len { length ranks.old ≡ length words.now }
-    requires settled_len { length settled.old ≡ length words.now }
-    ensures { result ≡ holding (values (held arities.now words.now starts.now)) equations (terms_from edition_one arities.now words.now 0) }
+    requires equations { Equations (of held.now) labels.old equations }
+    requires ranks_len { length ranks.old ≡ length held.now.words.now }
+    requires settled_len { length settled.old ≡ length held.now.words.now }
+    ensures { result ≡ all_holding (of held.now) equations }
 {
     number(labels);
     clear(ranks);
-    rank_all(arities, words, starts, ranks);
+    rank_all(held, ranks);
     clear(settled);
-    settle(arities, words, starts, ranks, settled, labels);
-    each_holds(arities, words, starts, settled, labels, equations)
+    settle(held, ranks, settled, labels);
+    each_holds(held, settled, labels, equations)
 }
 
 // The same where places are settled first.
-fn settled_hold(
-    arities: &[u8],
-    words: &[u16],
-    starts: &[u16],
-    labels: &mut [u16],
-    equations: usize,
-) -> bool
-    requires { Equations (held arities.now words.now starts.now) labels.old equations }
-    ensures { result ≡ holding (values (held arities.now words.now starts.now)) equations (terms_from edition_one arities.now words.now 0) }
+fn settled_hold(held: &Held, labels: &mut [u16], equations: usize) -> bool
+    requires { Equations (of held.now) labels.old equations }
+    ensures { result ≡ all_holding (of held.now) equations }
 {
     let mut ranks = blank();
     let mut settled = blank();
-    let n = words.len();
-    settled_in(
-        arities,
-        words,
-        starts,
-        &mut ranks[..n],
-        &mut settled[..n],
-        labels,
-        equations,
-    )
+    let n = held.words.len();
+    settled_in(held, &mut ranks[..n], &mut settled[..n], labels, equations)
 }
 
 // Notes where the values start, the first of them at `from`.
@@ -117,11 +85,9 @@ fn place_values(arities: &[u8], words: &[u16], from: usize, starts: &mut [u16])
     ensures { starts.new ≡ starts_from edition_one arities.now words.now from (length starts.old) }
 {
     let mut p = from;
-    let mut i: usize = 0;
-    while i < starts.len() {
-        starts[i] = p as u16;
+    for start in starts.iter_mut() {
+        *start = p as u16;
         p = term_end(arities, words, p);
-        i += 1;
     }
 }
 
@@ -139,8 +105,13 @@ pub fn values_hold(
     ensures { result ≡ holding (in_order (terms_from edition_one arities.now words.now from)) equations (terms_from edition_one arities.now words.now 0) }
 {
     place_values(arities, words, from, starts);
+    let held = Held {
+        arities,
+        words,
+        starts,
+    };
     if spreads_little(&words[..from], starts, words.len()) {
-        return all_hold(arities, words, starts, labels, equations);
+        return all_hold(&held, labels, equations);
     }
-    settled_hold(arities, words, starts, labels, equations)
+    settled_hold(&held, labels, equations)
 }

@@ -2,7 +2,6 @@
 // settled first.
 ghost use Rattle.std.specs.Prelude.{◌≤◌};
 
-use term_places::places::wide;
 use terms::kind::{Kind, kind_of};
 
 // So few that the comparison, which goes one level deeper for each bracket, stays within 1 MiB of stack.
@@ -12,29 +11,20 @@ const FEW: usize = 6144;
 fn words_between(start: usize, end: usize) -> usize
     ensures { result ≤ 6145 }
 {
-    if end <= start {
-        return 0;
-    }
-    let n = end - start;
-    if FEW < n {
-        return FEW + 1;
-    }
-    n
+    end.saturating_sub(start).min(FEW + 1)
 }
 
 // The words of the value of an unknown, of which the last ends at `end`.
 fn words_of_value(starts: &[u16], i: usize, end: usize) -> usize
     ensures { result ≤ 6145 }
 {
-    if starts.len() <= i {
-        return 0;
+    match starts.get(i) {
+        Some(start) => {
+            let next = starts.get(i + 1).map_or(end, |next| usize::from(*next));
+            words_between(usize::from(*start), next)
+        }
+        None => 0,
     }
-    let start = wide(starts[i]);
-    let next = i + 1;
-    if next < starts.len() {
-        return words_between(start, wide(starts[next]));
-    }
-    words_between(start, end)
 }
 
 // What stands for a word with its value put in.
@@ -42,7 +32,7 @@ fn words_for(word: u16, starts: &[u16], end: usize) -> usize
     ensures { result ≤ 6145 }
 {
     match kind_of(word) {
-        Kind::Unknown(i) => words_of_value(starts, wide(i), end),
+        Kind::Unknown(i) => words_of_value(starts, usize::from(i), end),
         Kind::Empty | Kind::Member | Kind::Functor(_) | Kind::Nothing => 1,
     }
 }
@@ -50,13 +40,11 @@ fn words_for(word: u16, starts: &[u16], end: usize) -> usize
 // Has a question, with the values that start at `starts` and end at `end` put in, few words?
 pub fn spreads_little(question: &[u16], starts: &[u16], end: usize) -> bool {
     let mut total: usize = 0;
-    let mut p: usize = 0;
-    while p < question.len() {
-        total += words_for(question[p], starts, end);
+    for word in question {
+        total += words_for(*word, starts, end);
         if FEW < total {
             return false;
         }
-        p += 1;
     }
     true
 }

@@ -26,7 +26,6 @@ ghost use Rattle.writer.specs.Written.{held, question_written, list_written, tex
 ghost use Rattle.equality.specs.Answering.{equal_answer, solves_answer};
 ghost use Rattle.results.specs.Result.{RunGives, told};
 
-pub use results::compared::{Equality, Solving};
 pub use results::ran::{Ending, Record};
 pub use results::read::Question;
 pub use results::written::Written;
@@ -87,9 +86,9 @@ pub fn write_answers(
 
 // Are two ground terms equal by the laws?
 //   Lent: the arities; the words of both terms in one row, left first.
-//   Back: `Equal` or `Differ`. Or `Refused`: 3 with place 0 for the arities, 3 at 4096 for too many words, 8 along the row.
-//   Example: [0] and [1, 2000, 0, 1, 2000, 1, 2000, 0], which is {f0} and {f0,f0}, give Equal.
-pub fn equal(arities: &[u8], row: &[u16]) -> Equality
+//   Back: `Ok(true)` where they are equal, `Ok(false)` where they differ. Or `Err`: 3 with place 0 for the arities, 3 at 4096 for too many words, 8 along the row.
+//   Example: [0] and [1, 2000, 0, 1, 2000, 1, 2000, 0], which is {f0} and {f0,f0}, give Ok(true).
+pub fn equal(arities: &[u8], row: &[u16]) -> Result<bool, Refusal>
     ensures { result ≡ equal_answer edition_one arities.now row.now }
 {
     equality::equal(arities, row)
@@ -97,15 +96,15 @@ pub fn equal(arities: &[u8], row: &[u16]) -> Equality
 
 // Do given ground values solve a question?
 //   Lent: the question; the words of one value for each unknown, in order, in one row.
-//   Back: `Yes` or `No`. Or `Refused`: 3 and 8 for the question, as in `write_question`; then 3 and 8 for the row, as in `equal`.
-//   Example: 1, [0], 1, [1000, 1, 2000, 1000], which is x0 = {f0|x0}, and the row [1, 2000, 0], which is {f0}, give Yes.
+//   Back: `Ok(true)` where they do, `Ok(false)` where they don't. Or `Err`: 3 and 8 for the question, as in `write_question`; then 3 and 8 for the row, as in `equal`.
+//   Example: 1, [0], 1, [1000, 1, 2000, 1000], which is x0 = {f0|x0}, and the row [1, 2000, 0], which is {f0}, give Ok(true).
 pub fn solves(
     unknowns: usize,
     arities: &[u8],
     equations: usize,
     words: &[u16],
     row: &[u16],
-) -> Solving
+) -> Result<bool, Refusal>
     ensures { result ≡ solves_answer edition_one unknowns arities.now equations words.now row.now }
 {
     equality::solves(unknowns, arities, equations, words, row)

@@ -15,14 +15,14 @@ ghost use Rattle.reader.specs.LentBuffers.{question_into};
 ghost use Rattle.writer.specs.Written.{question_written, list_written, text_of_list};
 ghost use Rattle.equality.specs.Answering.{equal_answer, solves_answer};
 ghost use Rattle.results.specs.Result.{told};
-ghost use Rattle.c_replies.specs.Replies.{Replied, of_equality, of_solving};
+ghost use Rattle.c_replies.specs.Replies.{Replied, of_verdict};
 ghost use Rattle.c_room.specs.RoomForC.{room_words};
 ghost use Rattle.c_run.specs.RunFromC.{RunReplied};
 ghost use Rattle.mensorique_c.specs.CallsFromC.{ReadReplied, WriteReplied};
 
 use c_replies::{tell_question, tell_written};
 use c_run::call_run;
-use c_verdicts::{tell_equality, tell_solving};
+use c_verdicts::tell_verdict;
 use room::layout::{HEADER, SPARE_ROWS};
 use search::limits::Limits;
 
@@ -89,11 +89,11 @@ pub extern "C" fn mensorique_equal(
     equal: &mut u32,
     place: &mut usize,
 ) -> u32
-    ensures { Replied (of_equality (equal_answer edition_one arities.now row.now)) result
+    ensures { Replied (of_verdict (equal_answer edition_one arities.now row.now)) result
         (equal.old ∷ []) (equal.new ∷ []) place.old place.new }
 {
-    let equality = mensorique::equal(arities, row);
-    tell_equality(equality, equal, place)
+    let verdict = mensorique::equal(arities, row);
+    tell_verdict(verdict, equal, place)
 }
 
 #[unsafe(no_mangle)]
@@ -106,11 +106,11 @@ pub extern "C" fn mensorique_solves(
     solves: &mut u32,
     place: &mut usize,
 ) -> u32
-    ensures { Replied (of_solving (solves_answer edition_one unknowns arities.now equations words.now row.now)) result
+    ensures { Replied (of_verdict (solves_answer edition_one unknowns arities.now equations words.now row.now)) result
         (solves.old ∷ []) (solves.new ∷ []) place.old place.new }
 {
-    let solving = mensorique::solves(unknowns, arities, equations, words, row);
-    tell_solving(solving, solves, place)
+    let verdict = mensorique::solves(unknowns, arities, equations, words, row);
+    tell_verdict(verdict, solves, place)
 }
 
 #[unsafe(no_mangle)]

@@ -74,8 +74,8 @@ module _ {h : Held} {ranks : List ℕ} {p : ℕ} (o : OfFunctor h ranks p) where
   no_set : get_or h.words p 0 ≡ MEMBER → ⊥
   no_set e = omega (arith, o.no_mark)
 
-  pub reckoning_start : Reckoning h ranks p 0 (p + 1) (following h p)
-  reckoning_start = record { of = o; left = left-first o.ranked.placed o.known no_set; so_far = λ b. omega arith }
+  pub reckoning_start : {m : ℕ} → m ≡ following h p → Reckoning h ranks p 0 (p + 1) m
+  reckoning_start e = rw e (record { of = o; left = left-first o.ranked.placed o.known no_set; so_far = λ b. omega arith })
 
   ranked_functor : Kernel h p → rank (valued h p) ≡ suc (rank* (arguments h (p + 1) (following h p)))
   unfolding rank
@@ -113,10 +113,11 @@ module _ {h : Held} {ranks : List ℕ} {p r x m : ℕ} (w : Reckoning h ranks p 
     pub resolved_in : resolved h.bounds h.words h.starts x < length h.words
     resolved_in = (resolving w.of.ranked.placed x argument_in).known.inside
 
-    pub reckoning_on : {v : ℕ} → v ≡ max r (get_or ranks (resolved h.bounds h.words h.starts x) 0)
-        → Reckoning h ranks p v (end h.bounds h.arities h.words x) (m - 1)
-    reckoning_on {v} e =
-        record {
+    pub reckoning_on : {v k : ℕ} → v ≡ max r (get_or ranks (resolved h.bounds h.words h.starts x) 0) → k ≡ m - 1
+        → Reckoning h ranks p v (end h.bounds h.arities h.words x) k
+    reckoning_on {v} e less =
+        rw less
+        (record {
           of = w.of;
           left = left-next w.of.ranked.placed w.left z;
           so_far = λ b.
@@ -125,7 +126,7 @@ module _ {h : Held} {ranks : List ℕ} {p r x m : ℕ} (w : Reckoning h ranks p 
               let c = ap rank (resolving w.of.ranked.placed x argument_in).same in
               let n = next_rank w.of.ranked.placed argument_in z in
               omega (arith, e, s, a, c, n);
-        }
+        })
 
 -- ---- the table
 

@@ -1,59 +1,34 @@
 // Places are settled: each is compared with the settled ones of its rank, the last place first, so that what is inside two terms is settled before they
 // are compared. After that labels alone tell whether two settled places hold equal terms.
-ghost use Rattle.term_places.specs.Places.{held};
+ghost use Rattle.term_places.specs.Lent.{of};
 ghost use Rattle.settling.specs.Settling.{Settling, Settles, Unsettled, AllSettled};
 
 use compare::compare::same;
 use term_places::classes::NONE;
+use term_places::places::Held;
 
 // Compares the term at p, which has this rank, with the settled ones until one is equal.
-fn meet_settled(
-    arities: &[u8],
-    words: &[u16],
-    starts: &[u16],
-    settled: &[u16],
-    labels: &mut [u16],
-    p: usize,
-    rank: u16,
-)
-    requires { Settling (held arities.now words.now starts.now) settled.now labels.old p rank }
-    ensures { Settles (held arities.now words.now starts.now) settled.now labels.old labels.new p }
+fn meet_settled(held: &Held, settled: &[u16], labels: &mut [u16], p: usize, rank: u16)
+    requires { Settling (of held.now) settled.now labels.old p rank }
+    ensures { Settles (of held.now) settled.now labels.old labels.new p }
 {
-    let mut q = p + 1;
-    while q < settled.len() {
-        if settled[q] == rank {
-            if same(arities, words, starts, settled, labels, p, q) {
-                return;
-            }
-            q += 1;
-        } else {
-            q += 1;
+    for q in p + 1..settled.len() {
+        if settled[q] == rank && same(held, settled, labels, p, q) {
+            return;
         }
     }
 }
 
 // Settles all places whose rank is known.
-pub fn settle(
-    arities: &[u8],
-    words: &[u16],
-    starts: &[u16],
-    ranks: &[u16],
-    settled: &mut [u16],
-    labels: &mut [u16],
-)
-    requires { Unsettled (held arities.now words.now starts.now) ranks.now settled.old labels.old }
-    ensures { AllSettled (held arities.now words.now starts.now) settled.new labels.new }
+pub fn settle(held: &Held, ranks: &[u16], settled: &mut [u16], labels: &mut [u16])
+    requires { Unsettled (of held.now) ranks.now settled.old labels.old }
+    ensures { AllSettled (of held.now) settled.new labels.new }
 {
-    let mut due = words.len();
-    while 0 < due {
-        let p = due - 1;
+    for p in (0..held.words.len()).rev() {
         let rank = ranks[p];
         if rank < NONE {
-            meet_settled(arities, words, starts, settled, labels, p, rank);
+            meet_settled(held, settled, labels, p, rank);
             settled[p] = rank;
-            due = p;
-        } else {
-            due = p;
         }
     }
 }

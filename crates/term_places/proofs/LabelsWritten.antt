@@ -8,7 +8,7 @@ use native.Mathlib.Nat.{eq-or-lt_of_le}
 use lib.ListN.{length, get_or, set, length-set, length-map}
 use lib.Seq.{get_or-set_same, get_or-set_other, ext_get_or}
 use borrow.Author.Tests.{eq-eqb, ne_eqb}
-use Rattle.term_places.specs.Classes.{Cleared, EachItsOwn, relabel, relabelled}
+use Rattle.term_places.specs.Classes.{EachItsOwn, relabel, relabelled}
 use Rattle.term_places.specs.Relabelled.{label_of}
 
 pub record Written (due : ℕ → ℕ) (before : List ℕ) (p : ℕ) (l : List ℕ) : Type 0 where
@@ -33,9 +33,6 @@ written-more {due} {before} {p} {l} v h e w =
 
 pub all_own : {before l : List ℕ} {p : ℕ} → length l ≤ p → Written (λ i. i) before p l → EachItsOwn l
 all_own h w = record { own = λ i b. w.done i (omega arith) (omega (arith, w.long)) }
-
-pub all_cleared : {before l : List ℕ} {p : ℕ} → length l ≤ p → Written (λ i. 65535) before p l → Cleared before l
-all_cleared h w = record { long = w.long; none = λ i b. w.done i (omega (arith, w.long)) b }
 
 pub all-relabelled : {before l : List ℕ} {p : ℕ} (old new : ℕ) → length l ≤ p → Written (λ i. relabel old new (get_or before i 0)) before p l → l ≡ relabelled old new before
 unfolding relabelled

@@ -1,3 +1,4 @@
+pub mod Lent
 pub mod Places
 pub mod Classes
 pub mod Standing

@@ -8,10 +8,8 @@ pub fn number(labels: &mut [u16])
     requires { length labels.old ≤ PLACES }
     ensures { EachItsOwn labels.new }
 {
-    let mut p: usize = 0;
-    while p < labels.len() {
+    for p in 0..labels.len() {
         labels[p] = p as u16;
-        p += 1;
     }
 }
 
@@ -29,14 +27,13 @@ fn relabel(label: u16, old: u16, new: u16) -> u16
 pub fn join(labels: &mut [u16], old: u16, new: u16)
     ensures { labels.new ≡ relabelled old new labels.old }
 {
-    let mut p: usize = 0;
-    while p < labels.len() {
-        labels[p] = relabel(labels[p], old, new);
-        p += 1;
+    for label in labels.iter_mut() {
+        *label = relabel(*label, old, new);
     }
 }
 
 // What stands where no rank is known, and where a place is not settled.
+// Kept: an `Option<u16>` would double each table of 8,192 ranks, and the tables lie on the stack, for the memory is fixed.
 pub const NONE: u16 = 65535;
 
 // The most places that there are: those of a question's words and of its values', twice `bounds::SYMBOLS`.
@@ -52,29 +49,19 @@ pub fn blank() -> [u16; PLACES]
 pub fn clear(table: &mut [u16])
     ensures { Cleared table.old table.new }
 {
-    let mut p: usize = 0;
-    while p < table.len() {
-        table[p] = NONE;
-        p += 1;
-    }
+    table.fill(NONE);
 }
 
 // Is the place settled? An empty table settles none.
 fn is_settled(settled: &[u16], p: usize) -> bool
     ensures { TellsSettled settled.now p result }
 {
-    if p < settled.len() {
-        return settled[p] < NONE;
-    }
-    false
+    p < settled.len() && settled[p] < NONE
 }
 
 // Are both?
 pub fn both_settled(settled: &[u16], p: usize, q: usize) -> bool
     ensures { BothSettled settled.now p q result }
 {
-    if is_settled(settled, p) {
-        return is_settled(settled, q);
-    }
-    false
+    is_settled(settled, p) && is_settled(settled, q)
 }

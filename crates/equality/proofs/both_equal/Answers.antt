@@ -7,8 +7,8 @@ use Rattle.equality.proofs.both_equal.Goals as goal
 pub slice_bounds-labels-end : goal.slice_bounds-labels-end
 slice_bounds-labels-end c = omega (arith, two_short _ _ c.requires)
 
-pub slice_bounds-all_hold-end-2 : goal.slice_bounds-all_hold-end-2
-slice_bounds-all_hold-end-2 c = let b = c.blank-labels.ensures in sym (length-take-le _ _ (omega (arith, two_short _ _ c.requires)))
+pub slice_bounds-all_hold-end : goal.slice_bounds-all_hold-end
+slice_bounds-all_hold-end c = let b = c.blank-labels.ensures in sym (length-take-le _ _ (omega (arith, two_short _ _ c.requires)))
 
 pub all_hold-requires : goal.all_hold-requires
 all_hold-requires c =

@@ -5,13 +5,9 @@ use Rattle.equality.proofs.equal.Goals as goal
 pub both_equal-requires : goal.both_equal-requires
 both_equal-requires c = sym c.check_row.ensures ∙ c.in-Fine.is
 
-pub returns-then-both_equal : goal.returns-then-both_equal
+pub returns-in-Fine : goal.returns-in-Fine
 unfolding equal_answer equality_after
-returns-then-both_equal c = rw (← c.check_row.ensures, c.in-Fine.is, ← c.both_equal.ensures, c.if-both_equal.true)
-
-pub returns-else-both_equal : goal.returns-else-both_equal
-unfolding equal_answer equality_after
-returns-else-both_equal c = rw (← c.check_row.ensures, c.in-Fine.is, ← c.both_equal.ensures, c.if-both_equal.false)
+returns-in-Fine c = rw (← c.check_row.ensures, c.in-Fine.is, ← c.both_equal.ensures)
 
 pub returns-in-Refused : goal.returns-in-Refused
 unfolding equal_answer equality_after

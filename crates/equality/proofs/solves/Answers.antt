@@ -5,29 +5,10 @@ use Rattle.equality.proofs.solves.Goals as goal
 pub values_solve-requires : goal.values_solve-requires
 values_solve-requires c = record { words_value = sym c.check_question.ensures ∙ c.in-Fine.is; row_value = sym c.check_row.ensures ∙ c.in-Fine-check_row.is }
 
-pub returns-then-values_solve : goal.returns-then-values_solve
+pub returns-in-Fine-check_row : goal.returns-in-Fine-check_row
 unfolding solves_answer solving_after
-returns-then-values_solve c =
-    rw (
-      ← c.check_question.ensures,
-      c.in-Fine.is,
-      ← c.check_row.ensures,
-      c.in-Fine-check_row.is,
-      ← c.values_solve.ensures,
-      c.if-values_solve.true,
-    )
-
-pub returns-else-values_solve : goal.returns-else-values_solve
-unfolding solves_answer solving_after
-returns-else-values_solve c =
-    rw (
-      ← c.check_question.ensures,
-      c.in-Fine.is,
-      ← c.check_row.ensures,
-      c.in-Fine-check_row.is,
-      ← c.values_solve.ensures,
-      c.if-values_solve.false,
-    )
+returns-in-Fine-check_row c =
+    rw (← c.check_question.ensures, c.in-Fine.is, ← c.check_row.ensures, c.in-Fine-check_row.is, ← c.values_solve.ensures)
 
 pub returns-in-Refused-check_row : goal.returns-in-Refused-check_row
 unfolding solves_answer solving_after

@@ -1,6 +1,6 @@
 -- What `equal` and `solves` answer, by the laws: the test of what the words hold agrees with the least equality, and every answer but a refusal says that the
 -- words hold what it speaks of.
-use Rattle.std.specs.Prelude.{ℕ, ◌≡◌, refl, Bool, true, false, List, [], ◌∷◌, ◌↔◌, length, drop}
+use Rattle.std.specs.Prelude.{ℕ, ◌≡◌, refl, Bool, true, false, Ok, Err, List, [], ◌∷◌, ◌↔◌, length, drop}
 use Rattle.std.proofs.Common.{sym, arith}
 use Rattle.std.proofs.lemmas.Bool.{false≢true}
 use Rattle.terms.specs.Bounds.{edition_one, edition_one_proper}
@@ -16,10 +16,6 @@ use Rattle.laws.proofs.Agree.{agree}
 use Rattle.laws.specs.Values.{Values, in_order, Solves, solves_test}
 use Rattle.laws.proofs.Solving.{solves_agree}
 use Rattle.equality.specs.Answering.{equality_after, equal_answer, solving_after, solves_answer}
-use Rattle.results.specs.declared.compared.Equality.{Equality}
-use Rattle.results.specs.declared.compared.Equality.TheVariants as equality
-use Rattle.results.specs.declared.compared.Solving.{Solving}
-use Rattle.results.specs.declared.compared.Solving.TheVariants as solving
 use Rattle.guarantees.specs.Calls.{Posed, asked, solves_told}
 use Rattle.guarantees.specs.Notions.{Compared, Tried}
 use Rattle.guarantees.proofs.Subjects.{impossible}
@@ -32,23 +28,14 @@ fails_exactly false e = (λ n. refl, λ f h. false≢true (e.0 h))
 
 -- ---- two ground terms
 
-abbrev compared : Bool → Equality
-compared true = equality.Equal
-compared false = equality.Differ
-
-compared_by : (c : Checked) (test b : Bool) → equality_after c test ≡ compared b → (c ≡ checked.Fine) × (test ≡ b)
+compared_by : (c : Checked) (test b : Bool) → equality_after c test ≡ Ok b → (c ≡ checked.Fine) × (test ≡ b)
 unfolding equality_after
-compared_by (checked.Refused r) test true e = impossible (cc)
-compared_by (checked.Refused r) test false e = impossible (cc)
-compared_by checked.Fine true true e = (refl, refl)
-compared_by checked.Fine true false e = impossible (cc)
-compared_by checked.Fine false true e = impossible (cc)
-compared_by checked.Fine false false e = (refl, refl)
+compared_by (checked.Refused r) test b e = impossible (cc)
+compared_by checked.Fine test b e = (refl, cc)
 
-by_test : (b : Bool) → equality_after checked.Fine b ≡ compared b
+by_test : (b : Bool) → equality_after checked.Fine b ≡ Ok b
 unfolding equality_after
-by_test true = refl
-by_test false = refl
+by_test b = refl
 
 two : (ts : List Term) → length ts ≡ 2 → ts ≡ top ts ∷ top (drop 1 ts) ∷ []
 unfolding top
@@ -58,7 +45,7 @@ two (t ∷ u ∷ []) e = refl
 two (t ∷ u ∷ v ∷ ts) e = absurd (omega arith)
 
 module _ {R : Term → Term → Type 0} (b : Bool) (decided : (t u : Term) → R t u ↔ (equal t u ≡ b)) where
-  compared_exactly : (arities ws : List ℕ) → (equal_answer edition_one arities ws ≡ compared b) ↔ Compared arities ws R
+  compared_exactly : (arities ws : List ℕ) → (equal_answer edition_one arities ws ≡ Ok b) ↔ Compared arities ws R
   unfolding equal_answer top
   compared_exactly arities ws = (
     λ e.
@@ -75,40 +62,30 @@ module _ {R : Term → Term → Type 0} (b : Bool) (decided : (t u : Term) → R
         rw (ground_check_row edition_one_proper c.table c.standing, ground_back edition_one_proper c.table c.standing, (decided c.left c.right).0 c.related) (by_test b),
   )
 
-pub equal_exactly : (arities ws : List ℕ) → (equal_answer edition_one arities ws ≡ equality.Equal) ↔ Compared arities ws ◌≈◌
+pub equal_exactly : (arities ws : List ℕ) → (equal_answer edition_one arities ws ≡ Ok true) ↔ Compared arities ws ◌≈◌
 equal_exactly = compared_exactly true agree
 
-pub differ_exactly : (arities ws : List ℕ) → (equal_answer edition_one arities ws ≡ equality.Differ) ↔ Compared arities ws (λ t u. t ≈ u → ⊥)
+pub differ_exactly : (arities ws : List ℕ) → (equal_answer edition_one arities ws ≡ Ok false) ↔ Compared arities ws (λ t u. t ≈ u → ⊥)
 differ_exactly = compared_exactly false (λ t u. fails_exactly (equal t u) (agree t u))
 
 -- ---- values for a question
 
-abbrev tried : Bool → Solving
-tried true = solving.Yes
-tried false = solving.No
-
-tried_by : (c d : Checked) (test b : Bool) → solving_after c d test ≡ tried b → (c ≡ checked.Fine) × (d ≡ checked.Fine) × (test ≡ b)
+tried_by : (c d : Checked) (test b : Bool) → solving_after c d test ≡ Ok b → (c ≡ checked.Fine) × (d ≡ checked.Fine) × (test ≡ b)
 unfolding solving_after
-tried_by (checked.Refused r) d test true e = impossible (cc)
-tried_by (checked.Refused r) d test false e = impossible (cc)
-tried_by checked.Fine (checked.Refused r) test true e = impossible (cc)
-tried_by checked.Fine (checked.Refused r) test false e = impossible (cc)
-tried_by checked.Fine checked.Fine true true e = (refl, refl, refl)
-tried_by checked.Fine checked.Fine true false e = impossible (cc)
-tried_by checked.Fine checked.Fine false true e = impossible (cc)
-tried_by checked.Fine checked.Fine false false e = (refl, refl, refl)
+tried_by (checked.Refused r) d test b e = impossible (cc)
+tried_by checked.Fine (checked.Refused r) test b e = impossible (cc)
+tried_by checked.Fine checked.Fine test b e = (refl, refl, cc)
 
-by_trial : (b : Bool) → solving_after checked.Fine checked.Fine b ≡ tried b
+by_trial : (b : Bool) → solving_after checked.Fine checked.Fine b ≡ Ok b
 unfolding solving_after
-by_trial true = refl
-by_trial false = refl
+by_trial b = refl
 
 table_of : (q : Posed) → Asked edition_one q.equations q.words (asked q) → Table edition_one q.arities
 unfolding question_of
 table_of q a = record { functors = a.good.functors; arities_within = a.good.arities }
 
 module _ {P : Values → List Equation → Type 0} (b : Bool) (decided : (σ : Values) (es : List Equation) → P σ es ↔ (solves_test σ es ≡ b)) where
-  tried_exactly : (q : Posed) (ws : List ℕ) → (solves_told q ws ≡ tried b) ↔ Tried q ws (λ σ. P σ (asked q).equations)
+  tried_exactly : (q : Posed) (ws : List ℕ) → (solves_told q ws ≡ Ok b) ↔ Tried q ws (λ σ. P σ (asked q).equations)
   unfolding solves_answer
   tried_exactly q ws = (
     λ e.
@@ -125,8 +102,8 @@ module _ {P : Values → List Equation → Type 0} (b : Bool) (decided : (σ : V
         ) (by_trial b),
   )
 
-pub yes_exactly : (q : Posed) (ws : List ℕ) → (solves_told q ws ≡ solving.Yes) ↔ Tried q ws (λ σ. Solves σ (asked q).equations)
+pub yes_exactly : (q : Posed) (ws : List ℕ) → (solves_told q ws ≡ Ok true) ↔ Tried q ws (λ σ. Solves σ (asked q).equations)
 yes_exactly = tried_exactly true solves_agree
 
-pub no_exactly : (q : Posed) (ws : List ℕ) → (solves_told q ws ≡ solving.No) ↔ Tried q ws (λ σ. Solves σ (asked q).equations → ⊥)
+pub no_exactly : (q : Posed) (ws : List ℕ) → (solves_told q ws ≡ Ok false) ↔ Tried q ws (λ σ. Solves σ (asked q).equations → ⊥)
 no_exactly = tried_exactly false (λ σ es. fails_exactly (solves_test σ es) (solves_agree σ es))

@@ -1,5 +1,5 @@
 -- Which numbers of SPECIFICATION 6.2 and 7 an entry may refuse with, and a run may end with.
-use Rattle.std.specs.Prelude.{ℕ, suc, zero, ◌+◌, ◌≡◌, refl, Bool, true, false, cond, List, [], ◌∷◌, ◌++◌, ◌⊎◌, eqb, leb, ltb, length}
+use Rattle.std.specs.Prelude.{ℕ, suc, zero, ◌+◌, ◌≡◌, refl, Bool, true, false, cond, Err, List, [], ◌∷◌, ◌++◌, ◌⊎◌, eqb, leb, ltb, length}
 use Rattle.std.proofs.lemmas.Bool.{false≢true}
 use Rattle.std.proofs.Common.{inl, inr, Option, Some, None}
 use Rattle.terms.specs.Bounds.{edition_one}
@@ -36,8 +36,6 @@ use Rattle.word_writer.specs.Depths.{First}
 use Rattle.writer.specs.Written.{tested, question_written, list_written, check_list}
 use Rattle.results.specs.declared.written.Written.TheVariants as writing
 use Rattle.equality.specs.Answering.{equality_after, equal_answer, solving_after, solves_answer}
-use Rattle.results.specs.declared.compared.Equality.TheVariants as equality
-use Rattle.results.specs.declared.compared.Solving.TheVariants as solving
 use Rattle.results.specs.Loans.{needed, loan}
 use Rattle.results.specs.Result.{Told, refuses, gives, told, told_within}
 use Rattle.guarantees.specs.Calls.{Posed, asked, Lending, loan_of, run_told, question_told, list_told, solves_told, text_told}
@@ -157,25 +155,23 @@ pub list-numbers : (arities : List ℕ) (end visited answers : ℕ) (words buffe
 unfolding list_written
 list-numbers arities end visited answers words buffer r e = written-numbers (list_numbered (end_of end) visited arities answers words) _ _ _ e
 
-pub equal-numbers : (arities ws : List ℕ) (r : Refusal) → equal_answer edition_one arities ws ≡ equality.Refused r → OneOf (3 ∷ 8 ∷ []) (number r.cause)
+pub equal-numbers : (arities ws : List ℕ) (r : Refusal) → equal_answer edition_one arities ws ≡ Err r → OneOf (3 ∷ 8 ∷ []) (number r.cause)
 unfolding equal_answer equality_after
 equal-numbers arities ws r e = go _ (row_numbered arities 2 ws) _ e
   where
-    go : (c : Checked) → Numbered (3 ∷ 8 ∷ []) c → (test : Bool) → equality_after c test ≡ equality.Refused r → OneOf (3 ∷ 8 ∷ []) (number r.cause)
+    go : (c : Checked) → Numbered (3 ∷ 8 ∷ []) c → (test : Bool) → equality_after c test ≡ Err r → OneOf (3 ∷ 8 ∷ []) (number r.cause)
     go (Refused s) (told_as h) test e = let same : s ≡ r = cc in or_later [] h same
-    go Fine h true e = impossible (cc)
-    go Fine h false e = impossible (cc)
+    go Fine h test e = impossible (cc)
 
-pub solves_numbers : (q : Posed) (ws : List ℕ) (r : Refusal) → solves_told q ws ≡ solving.Refused r
+pub solves_numbers : (q : Posed) (ws : List ℕ) (r : Refusal) → solves_told q ws ≡ Err r
     → OneOf (3 ∷ 8 ∷ []) (number r.cause)
 unfolding solves_answer solving_after
 solves_numbers q ws r e = go _ (question_numbered q.unknowns q.arities q.equations q.words) _ (row_numbered q.arities q.unknowns ws) _ e
   where
-    go : (c : Checked) → Numbered (3 ∷ 8 ∷ []) c → (d : Checked) → Numbered (3 ∷ 8 ∷ []) d → (test : Bool) → solving_after c d test ≡ solving.Refused r → OneOf (3 ∷ 8 ∷ []) (number r.cause)
+    go : (c : Checked) → Numbered (3 ∷ 8 ∷ []) c → (d : Checked) → Numbered (3 ∷ 8 ∷ []) d → (test : Bool) → solving_after c d test ≡ Err r → OneOf (3 ∷ 8 ∷ []) (number r.cause)
     go (Refused s) (told_as h) d k test e = let same : s ≡ r = cc in or_later [] h same
     go Fine h (Refused s) (told_as k) test e = let same : s ≡ r = cc in or_later [] k same
-    go Fine h Fine k true e = impossible (cc)
-    go Fine h Fine k false e = impossible (cc)
+    go Fine h Fine k test e = impossible (cc)
 
 -- ---- of texts
 

@@ -2,4 +2,4 @@
 use Rattle.mensorique_c.proofs.mensorique_equal.Goals as goal
 
 pub returns : goal.returns
-returns c = rw (← c.equal-equality.ensures) c.tell_equality.ensures
+returns c = rw (← c.equal-verdict.ensures) c.tell_verdict.ensures

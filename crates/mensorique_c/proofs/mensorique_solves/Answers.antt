@@ -2,4 +2,4 @@
 use Rattle.mensorique_c.proofs.mensorique_solves.Goals as goal
 
 pub returns : goal.returns
-returns c = rw (← c.solves-solving.ensures) c.tell_solving.ensures
+returns c = rw (← c.solves-verdict.ensures) c.tell_verdict.ensures

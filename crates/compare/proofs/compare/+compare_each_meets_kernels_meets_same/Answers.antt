@@ -1,4 +1,5 @@
-use mathlib.Core.Path.{◌≡◌, ◌∙◌}
+use mathlib.Core.Path.{◌∙◌}
+use Prim.Native.Nat.{◌<◌, ◌-◌}
 use native.Mathlib.Omega.{arith}
 use Rattle.term_places.specs.Places.{member_of}
 use Rattle.term_places.specs.Opened.{resolvable}
@@ -9,6 +10,7 @@ use Rattle.compare.proofs.Matching.{matching_start, matching_end, matching_opene
 use Rattle.compare.proofs.Arguing.{arguing_differ, arguing_start, arguing_end, left_inside, right_inside, arguing_asks, arguing_falls, arguing_no, arguing_on}
 use Rattle.compare.proofs.Comparing.{kernels_fall, compare_kernels, kernels_no, compare_members, members_no, compare_back, compared, same_label, settled_apart, not_same, now_same}
 use Rattle.compare.proofs.compare.+compare_each_meets_kernels_meets_same.Goals as goal
+use Rattle.compare.proofs.compare.+compare_each_meets_kernels_meets_same.Goals.{meets-then-same, meets-else-same, compare-else-kernels-via-then-kernels+else-each_meets, compare-else-kernels-via-else-kernels}
 
 -- ---- compare
 pub compare-kernel-k-requires : goal.compare-kernel-k-requires
@@ -37,38 +39,30 @@ compare-covers-requires t c =
     compare_back c.requires.comparing c.kernel-k.ensures c.kernel-l.ensures c.kernels.ensures c.if-kernels.true
     c.each_meets.ensures c.if-each_meets.true
 
-pub compare-shape_of-labels-then-each_meets : goal.compare-shape_of-labels-then-each_meets
-compare-shape_of-labels-then-each_meets t c =
-    c.each_meets.auto.labels ∙ c.kernels.auto.labels
-
 pub compare-returns-then-each_meets : goal.compare-returns-then-each_meets
 compare-returns-then-each_meets t c =
     compared c.requires.comparing c.kernel-k.ensures c.kernel-l.ensures c.kernels.ensures c.if-kernels.true
     c.each_meets.ensures c.if-each_meets.true c.covers.ensures
 
-pub compare-shape_of-labels-then-kernels : goal.compare-shape_of-labels-then-kernels
-compare-shape_of-labels-then-kernels t c = c.each_meets.auto.labels ∙ c.kernels.auto.labels
-
-pub compare-returns-then-kernels : goal.compare-returns-then-kernels
-compare-returns-then-kernels t c =
-    members_no c.requires.comparing c.kernel-k.ensures c.kernel-l.ensures c.kernels.ensures c.if-kernels.true
-    c.each_meets.ensures c.if-each_meets.false
-
-pub compare-shape_of-labels : goal.compare-shape_of-labels
-compare-shape_of-labels t c = c.kernels.auto.labels
-
 pub compare-returns : goal.compare-returns
 compare-returns t c =
-    kernels_no c.requires.comparing c.kernel-k.ensures c.kernel-l.ensures c.kernels.ensures c.if-kernels.false
+    elim c.else-kernels.branch [
+      | compare-else-kernels-via-then-kernels+else-each_meets w ↦
+          rw w.labels-is
+          (members_no c.requires.comparing c.kernel-k.ensures c.kernel-l.ensures c.kernels.ensures w.if-kernels.true
+          w.each_meets.ensures w.if-each_meets.false)
+      | compare-else-kernels-via-else-kernels w ↦
+          rw w.labels-is (kernels_no c.requires.comparing c.kernel-k.ensures c.kernel-l.ensures c.kernels.ensures w.if-kernels.false)
+    ]
 
 pub each_meets-loop-x-init : goal.each_meets-loop-x-init
 each_meets-loop-x-init t c = matching_start c.requires.comparing
 
-pub each_meets-offset_bounds-words-x : goal.each_meets-offset_bounds-words-x
-each_meets-offset_bounds-words-x t c = let k = c.loop-x.invariant.at in omega arith
+pub each_meets-offset_bounds-held-x : goal.each_meets-offset_bounds-held-x
+each_meets-offset_bounds-held-x t c = let k = c.loop-x.invariant.at in omega arith
 
-pub each_meets-bounds-words-x : goal.each_meets-bounds-words-x
-each_meets-bounds-words-x t c = c.loop-x.invariant.at.inside
+pub each_meets-bounds-held-x : goal.each_meets-bounds-held-x
+each_meets-bounds-held-x t c = c.loop-x.invariant.at.inside
 
 pub each_meets-overflow_add-x : goal.each_meets-overflow_add-x
 each_meets-overflow_add-x t c = let o = matching_opened c.loop-x.invariant c.loop-x-test.true in omega arith
@@ -111,20 +105,20 @@ each_meets-shape_of-labels t c = since_length c.loop-x.invariant.since
 pub each_meets-returns : goal.each_meets-returns
 each_meets-returns t c = matching_end c.loop-x.invariant c.loop-x-test.false
 
-pub kernels-offset_bounds-words-p : goal.kernels-offset_bounds-words-p
-kernels-offset_bounds-words-p t c = let k = c.requires.comparing_kernels.comparing.left in omega arith
+pub kernels-offset_bounds-held-p : goal.kernels-offset_bounds-held-p
+kernels-offset_bounds-held-p t c = let k = c.requires.comparing_kernels.comparing.left in omega arith
 
-pub kernels-bounds-words-p : goal.kernels-bounds-words-p
-kernels-bounds-words-p t c = c.requires.comparing_kernels.comparing.left.inside
+pub kernels-bounds-held-p : goal.kernels-bounds-held-p
+kernels-bounds-held-p t c = c.requires.comparing_kernels.comparing.left.inside
 
-pub kernels-offset_bounds-words-q : goal.kernels-offset_bounds-words-q
-kernels-offset_bounds-words-q t c = let k = c.requires.comparing_kernels.comparing.right in omega arith
+pub kernels-offset_bounds-held-q : goal.kernels-offset_bounds-held-q
+kernels-offset_bounds-held-q t c = let k = c.requires.comparing_kernels.comparing.right in omega arith
 
-pub kernels-bounds-words-q : goal.kernels-bounds-words-q
-kernels-bounds-words-q t c = let a = c.requires.comparing_kernels.comparing in omega (arith, a.left.inside, a.right.inside)
+pub kernels-bounds-held-q : goal.kernels-bounds-held-q
+kernels-bounds-held-q t c = let a = c.requires.comparing_kernels.comparing in omega (arith, a.left.inside, a.right.inside)
 
-pub kernels-returns-then-word-words : goal.kernels-returns-then-word-words
-kernels-returns-then-word-words t c = arguing_differ c.requires.comparing_kernels c.if-word-words.true
+pub kernels-returns-then-word-held : goal.kernels-returns-then-word-held
+kernels-returns-then-word-held t c = arguing_differ c.requires.comparing_kernels c.if-word-held.true
 
 pub kernels-overflow_add-x : goal.kernels-overflow_add-x
 kernels-overflow_add-x t c = let k = c.requires.comparing_kernels.comparing.left in omega arith
@@ -132,60 +126,57 @@ kernels-overflow_add-x t c = let k = c.requires.comparing_kernels.comparing.left
 pub kernels-overflow_add-y : goal.kernels-overflow_add-y
 kernels-overflow_add-y t c = let k = c.requires.comparing_kernels.comparing.right in omega arith
 
-pub kernels-loop-due-init : goal.kernels-loop-due-init
-kernels-loop-due-init t c = rw c.terms_after-due.ensures (arguing_start c.requires.comparing_kernels c.if-word-words.false)
+pub kernels-loop-init : goal.kernels-loop-init
+kernels-loop-init t c = arguing_start c.requires.comparing_kernels c.if-word-held.false (omega (arith, c.terms_after-due.ensures))
 
 pub kernels-resolve-requires : goal.kernels-resolve-requires
-kernels-resolve-requires t c = let i = c.loop-due.invariant in resolvable i.placed _ (left_inside i c.loop-due-test.true)
+kernels-resolve-requires t c = let i = c.loop.invariant in resolvable i.placed _ (left_inside i (omega arith))
 
-pub kernels-resolve-requires-in-loop-due : goal.kernels-resolve-requires-in-loop-due
-kernels-resolve-requires-in-loop-due t c = let i = c.loop-due.invariant in resolvable i.placed _ (right_inside i c.loop-due-test.true)
+pub kernels-resolve-requires-in-loop : goal.kernels-resolve-requires-in-loop
+kernels-resolve-requires-in-loop t c = let i = c.loop.invariant in resolvable i.placed _ (right_inside i (omega arith))
 
 pub kernels-same-requires : goal.kernels-same-requires
 kernels-same-requires t c =
-    let i = c.loop-due.invariant in
-    let z = c.loop-due-test.true in
-    rw (c.resolve.ensures, c.resolve-in-loop-due.ensures)
+    let i = c.loop.invariant in
+    let z : 0 < c.terms_after-due.result - c.loop.counter = omega arith in
+    rw (c.resolve.ensures, c.resolve-in-loop.ensures)
     (omega (arith, c.decreases, arguing_falls i z), (arguing_asks i z, settled_since i.since c.requires.settled))
 
 pub kernels-term_end-x-requires : goal.kernels-term_end-x-requires
 kernels-term_end-x-requires t c =
-    let i = c.loop-due.invariant in record { unknowns = _; terms = i.placed.terms; inside = left_inside i c.loop-due-test.true }
+    let i = c.loop.invariant in record { unknowns = _; terms = i.placed.terms; inside = left_inside i (omega arith) }
 
 pub kernels-term_end-y-requires : goal.kernels-term_end-y-requires
 kernels-term_end-y-requires t c =
-    let i = c.loop-due.invariant in record { unknowns = _; terms = i.placed.terms; inside = right_inside i c.loop-due-test.true }
+    let i = c.loop.invariant in record { unknowns = _; terms = i.placed.terms; inside = right_inside i (omega arith) }
 
-pub kernels-loop-due-smaller : goal.kernels-loop-due-smaller
-kernels-loop-due-smaller t c = let z = c.loop-due-test.true in omega arith
-
-pub kernels-loop-due-preserved : goal.kernels-loop-due-preserved
-kernels-loop-due-preserved t c =
-    let s = rw (c.resolve.ensures, c.resolve-in-loop-due.ensures) at c.same.ensures in
-    rw (c.term_end-x.ensures, c.term_end-y.ensures) (arguing_on c.loop-due.invariant c.loop-due-test.true s c.if-same.true)
+pub kernels-loop-preserved : goal.kernels-loop-preserved
+kernels-loop-preserved t c =
+    let s = rw (c.resolve.ensures, c.resolve-in-loop.ensures) at c.same.ensures in
+    rw (c.term_end-x.ensures, c.term_end-y.ensures) (arguing_on c.loop.invariant (omega arith) s c.if-same.true (omega arith))
 
 pub kernels-shape_of-labels-else-same : goal.kernels-shape_of-labels-else-same
-kernels-shape_of-labels-else-same t c = c.same.auto.labels ∙ since_length c.loop-due.invariant.since
+kernels-shape_of-labels-else-same t c = c.same.auto.labels ∙ since_length c.loop.invariant.since
 
 pub kernels-returns-else-same : goal.kernels-returns-else-same
 kernels-returns-else-same t c =
-    let s = rw (c.resolve.ensures, c.resolve-in-loop-due.ensures) at c.same.ensures in
-    arguing_no c.loop-due.invariant c.loop-due-test.true s c.if-same.false
+    let s = rw (c.resolve.ensures, c.resolve-in-loop.ensures) at c.same.ensures in
+    arguing_no c.loop.invariant (omega arith) s c.if-same.false
 
 pub kernels-shape_of-labels : goal.kernels-shape_of-labels
-kernels-shape_of-labels t c = since_length c.loop-due.invariant.since
+kernels-shape_of-labels t c = since_length c.loop.invariant.since
 
 pub kernels-returns : goal.kernels-returns
-kernels-returns t c = let z : c.loop-due.due ≡ 0 = omega arith in arguing_end c.loop-due.invariant z
+kernels-returns t c = arguing_end c.loop.invariant (omega arith)
 
 pub meets-loop-y-init : goal.meets-loop-y-init
 meets-loop-y-init t c = meeting_start c.requires.comparing
 
-pub meets-offset_bounds-words-y : goal.meets-offset_bounds-words-y
-meets-offset_bounds-words-y t c = let k = c.loop-y.invariant.at in omega arith
+pub meets-offset_bounds-held-y : goal.meets-offset_bounds-held-y
+meets-offset_bounds-held-y t c = let k = c.loop-y.invariant.at in omega arith
 
-pub meets-bounds-words-y : goal.meets-bounds-words-y
-meets-bounds-words-y t c = c.loop-y.invariant.at.inside
+pub meets-bounds-held-y : goal.meets-bounds-held-y
+meets-bounds-held-y t c = c.loop-y.invariant.at.inside
 
 pub meets-overflow_add-y : goal.meets-overflow_add-y
 meets-overflow_add-y t c = let o = meeting_opened c.loop-y.invariant c.loop-y-test.true in omega arith
@@ -203,28 +194,19 @@ meets-same-requires t c =
 pub meets-rest-y-requires : goal.meets-rest-y-requires
 meets-rest-y-requires t c = meeting_at c.loop-y.invariant c.loop-y-test.true
 
-pub meets-loop-y-smaller-then-same : goal.meets-loop-y-smaller-then-same
-meets-loop-y-smaller-then-same t c =
-    rw c.rest-y.ensures (rest_smaller (meeting_opened c.loop-y.invariant c.loop-y-test.true))
-
-pub meets-loop-y-preserved-then-same : goal.meets-loop-y-preserved-then-same
-unfolding member_of
-meets-loop-y-preserved-then-same t c =
-    let s = rw c.resolve.ensures at c.same.ensures in
-    rw c.rest-y.ensures (meeting_yes c.loop-y.invariant c.loop-y-test.true s c.if-same.true)
-
-pub meets-rest-y-requires-else-same : goal.meets-rest-y-requires-else-same
-meets-rest-y-requires-else-same t c = meeting_at c.loop-y.invariant c.loop-y-test.true
-
 pub meets-loop-y-smaller : goal.meets-loop-y-smaller
 meets-loop-y-smaller t c =
-    rw c.rest-y-else-same.ensures (rest_smaller (meeting_opened c.loop-y.invariant c.loop-y-test.true))
+    rw c.rest-y.ensures (rest_smaller (meeting_opened c.loop-y.invariant c.loop-y-test.true))
 
 pub meets-loop-y-preserved : goal.meets-loop-y-preserved
 unfolding member_of
 meets-loop-y-preserved t c =
     let s = rw c.resolve.ensures at c.same.ensures in
-    rw c.rest-y-else-same.ensures (meeting_no c.loop-y.invariant c.loop-y-test.true s c.if-same.false)
+    rw c.rest-y.ensures
+    (elim c.if-same.branch [
+      | meets-then-same w ↦ rw w.met-is (meeting_yes c.loop-y.invariant c.loop-y-test.true s w.if-same.true)
+      | meets-else-same w ↦ rw w.met-is (meeting_no c.loop-y.invariant c.loop-y-test.true s w.if-same.false)
+    ])
 
 pub meets-shape_of-labels : goal.meets-shape_of-labels
 meets-shape_of-labels t c = since_length c.loop-y.invariant.since

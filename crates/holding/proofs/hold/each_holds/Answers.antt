@@ -1,56 +1,53 @@
-use mathlib.Core.Path.{◌≡◌, ◌∙◌, sym}
+use mathlib.Core.Path.{◌∙◌, sym}
 use native.Mathlib.Omega.{arith}
 use Rattle.term_places.specs.Opened.{resolvable}
 use Rattle.holding.proofs.Holds.{holds-start, holds-end, left_in, right_in, holds-asks, holds_no, holds_on}
 use Rattle.holding.proofs.hold.each_holds.Goals as goal
 
-pub loop-due-init : goal.loop-due-init
-loop-due-init c = holds-start c.requires.equations c.requires.all_settled
+pub loop-init : goal.loop-init
+loop-init c = holds-start c.requires.equations c.requires.all_settled (omega arith)
 
 pub term_end-right-requires : goal.term_end-right-requires
-term_end-right-requires c = let i = c.loop-due.invariant in record { unknowns = _; terms = i.placed.terms; inside = left_in i c.loop-due-test.true }
+term_end-right-requires c = let i = c.loop.invariant in record { unknowns = _; terms = i.placed.terms; inside = left_in i (omega arith) }
 
 pub resolve-requires : goal.resolve-requires
-resolve-requires c = let i = c.loop-due.invariant in resolvable i.placed _ (left_in i c.loop-due-test.true)
+resolve-requires c = let i = c.loop.invariant in resolvable i.placed _ (left_in i (omega arith))
 
-pub resolve-requires-in-loop-due : goal.resolve-requires-in-loop-due
-resolve-requires-in-loop-due c =
-    let i = c.loop-due.invariant in rw c.term_end-right.ensures (resolvable i.placed _ (right_in i c.loop-due-test.true))
+pub resolve-requires-in-loop : goal.resolve-requires-in-loop
+resolve-requires-in-loop c =
+    let i = c.loop.invariant in rw c.term_end-right.ensures (resolvable i.placed _ (right_in i (omega arith)))
 
 pub same-requires : goal.same-requires
 same-requires c =
-    let r = rw c.term_end-right.ensures at c.resolve-in-loop-due.ensures in
-    let w = c.loop-due.invariant in
-    record { comparing = rw (c.resolve.ensures, r) (holds-asks w c.loop-due-test.true); settled = w.apart }
+    let r = rw c.term_end-right.ensures at c.resolve-in-loop.ensures in
+    let w = c.loop.invariant in
+    record { comparing = rw (c.resolve.ensures, r) (holds-asks w (omega arith)); settled = w.apart }
 
 pub term_end-left-requires : goal.term_end-left-requires
 term_end-left-requires c =
-    let i = c.loop-due.invariant in
-    rw c.term_end-right.ensures (record { unknowns = _; terms = i.placed.terms; inside = right_in i c.loop-due-test.true })
+    let i = c.loop.invariant in
+    rw c.term_end-right.ensures (record { unknowns = _; terms = i.placed.terms; inside = right_in i (omega arith) })
 
-pub loop-due-smaller : goal.loop-due-smaller
-loop-due-smaller c = let z = c.loop-due-test.true in omega arith
-
-pub loop-due-preserved : goal.loop-due-preserved
-loop-due-preserved c =
+pub loop-preserved : goal.loop-preserved
+loop-preserved c =
     let e = c.term_end-right.ensures in
-    let r = rw e at c.resolve-in-loop-due.ensures in
+    let r = rw e at c.resolve-in-loop.ensures in
     let s = rw (c.resolve.ensures, r) at c.same.ensures in
-    rw (c.term_end-left.ensures, e) (holds_on c.loop-due.invariant c.loop-due-test.true s c.if-same.true)
+    rw (c.term_end-left.ensures, e) (holds_on c.loop.invariant (omega arith) s c.if-same.true (omega arith))
 
 pub shape_of-labels-else-same : goal.shape_of-labels-else-same
 shape_of-labels-else-same c =
-    c.same.auto.labels ∙ c.loop-due.invariant.classes.long ∙ sym c.requires.equations.long
+    c.same.auto.labels ∙ c.loop.invariant.classes.long ∙ sym c.requires.equations.long
 
 pub returns-else-same : goal.returns-else-same
 returns-else-same c =
     let e = c.term_end-right.ensures in
-    let r = rw e at c.resolve-in-loop-due.ensures in
+    let r = rw e at c.resolve-in-loop.ensures in
     let s = rw (c.resolve.ensures, r) at c.same.ensures in
-    sym (holds_no c.loop-due.invariant c.loop-due-test.true s c.if-same.false)
+    sym (holds_no c.loop.invariant (omega arith) s c.if-same.false)
 
 pub shape_of-labels : goal.shape_of-labels
-shape_of-labels c = c.loop-due.invariant.classes.long ∙ sym c.requires.equations.long
+shape_of-labels c = c.loop.invariant.classes.long ∙ sym c.requires.equations.long
 
 pub returns : goal.returns
-returns c = let z : c.loop-due.due ≡ 0 = omega arith in sym (holds-end c.loop-due.invariant z)
+returns c = sym (holds-end c.loop.invariant (omega arith))

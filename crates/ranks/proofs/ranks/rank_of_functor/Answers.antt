@@ -1,4 +1,3 @@
-use mathlib.Core.Path.{◌≡◌}
 use native.Mathlib.Omega.{arith}
 use Rattle.term_places.specs.Opened.{resolvable}
 use Rattle.term_places.specs.Arguments.{following}
@@ -8,33 +7,30 @@ use Rattle.ranks.proofs.ranks.rank_of_functor.Goals as goal
 pub overflow_add-x : goal.overflow_add-x
 overflow_add-x c = let o = c.requires in omega (arith, o.known.inside)
 
-pub offset_bounds-words-p : goal.offset_bounds-words-p
-offset_bounds-words-p c = let o = c.requires in omega (arith, o.known.inside)
+pub offset_bounds-held-p : goal.offset_bounds-held-p
+offset_bounds-held-p c = let o = c.requires in omega (arith, o.known.inside)
 
-pub bounds-words-p : goal.bounds-words-p
-bounds-words-p c = c.requires.known.inside
+pub bounds-held-p : goal.bounds-held-p
+bounds-held-p c = c.requires.known.inside
 
-pub loop-due-init : goal.loop-due-init
+pub loop-init : goal.loop-init
 unfolding following
-loop-due-init c = rw c.terms_after-due.ensures (reckoning_start c.requires)
+loop-init c = reckoning_start c.requires (omega (arith, c.terms_after-due.ensures))
 
 pub resolve-requires : goal.resolve-requires
-resolve-requires c = let i = c.loop-due.invariant in resolvable i.of.ranked.placed _ (argument_in i c.loop-due-test.true)
+resolve-requires c = let i = c.loop.invariant in resolvable i.of.ranked.placed _ (argument_in i (omega arith))
 
 pub offset_bounds-ranks-resolve : goal.offset_bounds-ranks-resolve
-offset_bounds-ranks-resolve c = let i = c.loop-due.invariant in omega (arith, c.resolve.ensures, resolved_in i c.loop-due-test.true, i.of.ranked.long)
+offset_bounds-ranks-resolve c = let i = c.loop.invariant in omega (arith, c.resolve.ensures, resolved_in i (omega arith), i.of.ranked.long)
 
 pub bounds-ranks-resolve : goal.bounds-ranks-resolve
-bounds-ranks-resolve c = let i = c.loop-due.invariant in omega (arith, c.resolve.ensures, resolved_in i c.loop-due-test.true, i.of.ranked.long)
+bounds-ranks-resolve c = let i = c.loop.invariant in omega (arith, c.resolve.ensures, resolved_in i (omega arith), i.of.ranked.long)
 
 pub term_end-x-requires : goal.term_end-x-requires
-term_end-x-requires c = let i = c.loop-due.invariant in record { unknowns = _; terms = i.of.ranked.placed.terms; inside = argument_in i c.loop-due-test.true }
+term_end-x-requires c = let i = c.loop.invariant in record { unknowns = _; terms = i.of.ranked.placed.terms; inside = argument_in i (omega arith) }
 
-pub loop-due-smaller : goal.loop-due-smaller
-loop-due-smaller c = let z = c.loop-due-test.true in omega arith
-
-pub loop-due-preserved : goal.loop-due-preserved
-loop-due-preserved c = rw c.term_end-x.ensures (reckoning_on c.loop-due.invariant c.loop-due-test.true (rw c.resolve.ensures at c.larger-rank.ensures))
+pub loop-preserved : goal.loop-preserved
+loop-preserved c = rw c.term_end-x.ensures (reckoning_on c.loop.invariant (omega arith) (rw c.resolve.ensures at c.max-rank.ensures) (omega arith))
 
 pub returns : goal.returns
-returns c = let z : c.loop-due.due ≡ 0 = omega arith in reckoning_end c.loop-due.invariant z c.above.ensures
+returns c = reckoning_end c.loop.invariant (omega arith) c.above.ensures

@@ -35,4 +35,4 @@ pub returns : goal.returns
 unfolding member_of rest_of
 returns c =
     let resolve_told = c.resolve.ensures in
-    set_told c.requires (rw resolve_told at c.above.ensures) (rw c.term_end-after.ensures at (rw c.resolve-2.ensures at c.larger.ensures))
+    set_told c.requires (rw resolve_told at c.above.ensures) (rw c.term_end-after.ensures at (rw c.resolve-2.ensures at c.max.ensures))

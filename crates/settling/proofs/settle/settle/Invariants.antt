@@ -1,9 +1,6 @@
-use Rattle.term_places.specs.Places.{held}
+use Rattle.term_places.specs.Lent.{of}
 use Rattle.settling.proofs.SettlingLoop.{Going}
 use Rattle.settling.proofs.settle.settle.Given as goal
 
-abbrev pub invariant-loop-due : goal.invariant-loop-due
-invariant-loop-due l = Going (held l.arities l.words l.starts) l.ranks l.settled l.labels l.due
-
-abbrev pub decreases-loop-due : goal.decreases-loop-due
-decreases-loop-due l = l.due
+abbrev pub invariant-loop-p : goal.invariant-loop-p
+invariant-loop-p l = Going (of l.held) l.ranks l.settled l.labels l.p

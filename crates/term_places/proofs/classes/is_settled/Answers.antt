@@ -1,9 +1,5 @@
-use mathlib.Core.Bool.{false≢true}
 use borrow.Author.Tests.{ltb-true}
 use Rattle.term_places.proofs.classes.is_settled.Goals as goal
 
 pub returns-then-p-settled : goal.returns-then-p-settled
 returns-then-p-settled c = record { yes = λ y. record { inside = c.if-p-settled.true; below = ltb-true _ _ y } }
-
-pub returns : goal.returns
-returns c = record { yes = λ y. absurd (false≢true y) }

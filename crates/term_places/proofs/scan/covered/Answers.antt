@@ -9,11 +9,11 @@ use Rattle.term_places.proofs.scan.covered.Goals as goal
 pub loop-x-init : goal.loop-x-init
 loop-x-init c = covering_start c.requires
 
-pub offset_bounds-words-x : goal.offset_bounds-words-x
-offset_bounds-words-x c = let k = c.loop-x.invariant.walk.known in omega arith
+pub offset_bounds-held-x : goal.offset_bounds-held-x
+offset_bounds-held-x c = let k = c.loop-x.invariant.walk.known in omega arith
 
-pub bounds-words-x : goal.bounds-words-x
-bounds-words-x c = c.loop-x.invariant.walk.known.inside
+pub bounds-held-x : goal.bounds-held-x
+bounds-held-x c = c.loop-x.invariant.walk.known.inside
 
 pub overflow_add-x : goal.overflow_add-x
 overflow_add-x c = let o = covering_opened c.loop-x.invariant c.loop-x-test.true in omega arith

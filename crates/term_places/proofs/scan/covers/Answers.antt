@@ -9,11 +9,11 @@ use Rattle.term_places.proofs.scan.covers.Goals as goal
 pub loop-y-init : goal.loop-y-init
 loop-y-init c = scanning_start c.requires
 
-pub offset_bounds-words-y : goal.offset_bounds-words-y
-offset_bounds-words-y c = let k = c.loop-y.invariant.walk.known in omega arith
+pub offset_bounds-held-y : goal.offset_bounds-held-y
+offset_bounds-held-y c = let k = c.loop-y.invariant.walk.known in omega arith
 
-pub bounds-words-y : goal.bounds-words-y
-bounds-words-y c = c.loop-y.invariant.walk.known.inside
+pub bounds-held-y : goal.bounds-held-y
+bounds-held-y c = c.loop-y.invariant.walk.known.inside
 
 pub overflow_add-y : goal.overflow_add-y
 overflow_add-y c = let o = scanning_opened c.loop-y.invariant c.loop-y-test.true in omega arith

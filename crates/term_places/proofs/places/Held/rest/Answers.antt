@@ -1,7 +1,7 @@
 use mathlib.Core.Path.{◌∙◌, ap}
 use Rattle.term_places.specs.Places.{resolved, rest_of}
 use Rattle.term_places.specs.Opened.{opened, resolvable}
-use Rattle.term_places.proofs.places.rest.Goals as goal
+use Rattle.term_places.proofs.places.Held.rest.Goals as goal
 
 pub term_end-requires : goal.term_end-requires
 term_end-requires c = let a = c.requires in record { unknowns = _; terms = a.placed.terms; inside = (opened a.placed _ a.inside a.member).next }
