@@ -14,8 +14,6 @@ use Rattle.text.specs.Text.{choose}
 use Rattle.numerals.specs.TextReading.{Reading, read, refused, fault, and_then, then-read, then-refused}
 use Rattle.numerals.specs.Numbers.{number, of_numeral}
 use Rattle.items.specs.Items.{done, symbol, name, an_unknown, a_functor, arguments, Room}
-use Rattle.numerals.specs.declared.number.Numeral.{Numeral}
-use Rattle.numerals.specs.declared.number.Numeral.TheVariants.{Value, Unfit}
 use Rattle.items.proofs.WordsSoFar.{counted, stored}
 
 module _ (s : List ℕ) (declared p n : ℕ) where
@@ -24,19 +22,19 @@ module _ (s : List ℕ) (declared p n : ℕ) where
   name_full h = rw (le-ltb n SYMBOLS h)
 
   -- the number after the letter was read, or refused
-  module _ {r : Numeral} (e : of_numeral r ≡ number s (p + 1)) (h : n < SYMBOLS) where
-    pub name_unfit : (f : Refusal) → r ≡ Unfit f → refused f ≡ name edition_one s declared p n
+  module _ (h : n < SYMBOLS) where
+    pub name_unfit : (f : Refusal) → refused f ≡ number s (p + 1) → refused f ≡ name edition_one s declared p n
     unfolding name symbol edition_one
-    name_unfit f k = rw (lt-ltb n SYMBOLS h) (sym (then-refused _ (sym e ∙ ap of_numeral k)))
+    name_unfit f e = rw (lt-ltb n SYMBOLS h) (sym (then-refused _ (sym e)))
 
-    module _ (i q : ℕ) (k : r ≡ Value i q) where
+    module _ {i q : ℕ} (e : read q i ≡ number s (p + 1)) where
       pub name_declared : i < declared → read q i ≡ name edition_one s declared p n
       unfolding name symbol edition_one
-      name_declared d = rw (lt-ltb n SYMBOLS h) (sym (then-read _ (sym e ∙ ap of_numeral k) ∙ rw (lt-ltb i declared d)))
+      name_declared d = rw (lt-ltb n SYMBOLS h) (sym (then-read _ (sym e) ∙ rw (lt-ltb i declared d)))
 
       pub name_undeclared : declared ≤ i → fault Undeclared p ≡ name edition_one s declared p n
       unfolding name symbol edition_one
-      name_undeclared d = rw (lt-ltb n SYMBOLS h) (sym (then-read _ (sym e ∙ ap of_numeral k) ∙ rw (le-ltb i declared d)))
+      name_undeclared d = rw (lt-ltb n SYMBOLS h) (sym (then-read _ (sym e) ∙ rw (le-ltb i declared d)))
 
   -- a name that was read has a symbol's room, and is declared
   pub name-told : (q i : ℕ) → name edition_one s declared p n ≡ read q i → (n < SYMBOLS) × (i < declared)
@@ -57,26 +55,26 @@ name-counted : {l : List ℕ} {n : ℕ} → Room l n → (s : List ℕ) (declare
     → name edition_one s declared p (length (take n l)) ≡ name edition_one s declared p n
 name-counted R s declared p = rw (counted R)
 
-module _ {l : List ℕ} {n : ℕ} (R : Room l n) (s : List ℕ) (declared p : ℕ) {r : Numeral} (e : of_numeral r ≡ name edition_one s declared p n) where
-  module _ (i q : ℕ) (k : r ≡ Value i q) where
+module _ {l : List ℕ} {n : ℕ} (R : Room l n) (s : List ℕ) (declared p : ℕ) where
+  module _ {i q : ℕ} (e : read q i ≡ name edition_one s declared p n) where
     pub named-told : (n < SYMBOLS) × (i < declared)
-    named-told = name-told s declared p n q i (sym e ∙ ap of_numeral k)
+    named-told = name-told s declared p n q i (sym e)
 
     pub unknown_read : read q (done (take (n + 1) (set l n (FIRST_UNKNOWN + i)))) ≡ an_unknown edition_one s declared p (take n l)
     unfolding an_unknown edition_one
-    unknown_read = rw (stored R (FIRST_UNKNOWN + i) named-told.0) (sym (then-read _ (name-counted R s declared p ∙ sym e ∙ ap of_numeral k)))
+    unknown_read = rw (stored R (FIRST_UNKNOWN + i) named-told.0) (sym (then-read _ (name-counted R s declared p ∙ sym e)))
 
-  pub unknown_unfit : (f : Refusal) → r ≡ Unfit f → refused f ≡ an_unknown edition_one s declared p (take n l)
+  pub unknown_unfit : (f : Refusal) → refused f ≡ name edition_one s declared p n → refused f ≡ an_unknown edition_one s declared p (take n l)
   unfolding an_unknown
-  unknown_unfit f k = sym (then-refused _ (name-counted R s declared p ∙ sym e ∙ ap of_numeral k))
+  unknown_unfit f e = sym (then-refused _ (name-counted R s declared p ∙ sym e))
 
-module _ {l : List ℕ} {n : ℕ} (R : Room l n) (s arities : List ℕ) (depth p : ℕ) {r : Numeral} (e : of_numeral r ≡ name edition_one s (length arities) p n) where
-  pub functor_read : (k q : ℕ) → r ≡ Value k q
-      → a_functor edition_one s arities depth p (take n l) ≡ arguments edition_one s depth (get_or arities k 0) q (take (n + 1) (set l n (FIRST_FUNCTOR + k)))
+module _ {l : List ℕ} {n : ℕ} (R : Room l n) (s arities : List ℕ) (depth p : ℕ) where
+  pub functor_read : {k q : ℕ} → read q k ≡ name edition_one s (length arities) p n
+      → arguments edition_one s depth (get_or arities k 0) q (take (n + 1) (set l n (FIRST_FUNCTOR + k))) ≡ a_functor edition_one s arities depth p (take n l)
   unfolding a_functor edition_one
-  functor_read k q i =
-      rw (stored R (FIRST_FUNCTOR + k) (named-told R s (length arities) p e k q i).0) (then-read _ (name-counted R s (length arities) p ∙ sym e ∙ ap of_numeral i))
+  functor_read {k} {q} e =
+      sym (rw (stored R (FIRST_FUNCTOR + k) (named-told R s (length arities) p e).0) (then-read _ (name-counted R s (length arities) p ∙ sym e)))
 
-  pub functor_unfit : (f : Refusal) → r ≡ Unfit f → refused f ≡ a_functor edition_one s arities depth p (take n l)
+  pub functor_unfit : (f : Refusal) → refused f ≡ name edition_one s (length arities) p n → refused f ≡ a_functor edition_one s arities depth p (take n l)
   unfolding a_functor
-  functor_unfit f k = sym (then-refused _ (name-counted R s (length arities) p ∙ sym e ∙ ap of_numeral k))
+  functor_unfit f e = sym (then-refused _ (name-counted R s (length arities) p ∙ sym e))

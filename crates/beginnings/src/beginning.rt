@@ -7,76 +7,80 @@ ghost use Rattle.items.specs.Items.{name, an_unknown, arguments, a_functor, a_se
 
 use items::item::{Item, Next, end_empty, open_member};
 use numerals::bytes;
-use numerals::bytes::{peek, wide};
+use numerals::bytes::peek;
 use numerals::number::{Numeral, read_number};
 use terms::bounds;
 use terms::kind::{functor_word, unknown_word};
 use terms::refusal::{Cause, Refusal};
 
 // The number of the name whose letter stands at `at`; so many are declared.
-fn read_name(text: &[u8], at: usize, declared: usize, n: usize) -> Numeral
+fn read_name(text: &[u8], at: usize, declared: usize, n: usize) -> Result<Numeral, Refusal>
     requires { at < length text.now }
     ensures { of_numeral result ≡ name edition_one text.now declared at n }
 {
     if bounds::SYMBOLS <= n {
-        return Numeral::Unfit(Refusal {
+        return Err(Refusal {
             cause: Cause::Limit,
             place: at,
         });
     }
-    match read_number(text, at + 1) {
-        Numeral::Value(i, p) => {
-            if i < declared {
-                return Numeral::Value(i, p);
-            }
-            Numeral::Unfit(Refusal {
-                cause: Cause::Undeclared,
-                place: at,
-            })
-        }
-        Numeral::Unfit(r) => Numeral::Unfit(r),
+    let read = read_number(text, at + 1)?;
+    if read.value < declared {
+        return Ok(read);
     }
+    Err(Refusal {
+        cause: Cause::Undeclared,
+        place: at,
+    })
 }
 
 // The unknown whose letter stands at `at`.
-fn read_unknown(text: &[u8], at: usize, unknowns: usize, words: &mut [u16], n: usize) -> Next
+fn read_unknown(
+    text: &[u8],
+    at: usize,
+    unknowns: usize,
+    words: &mut [u16],
+    n: usize,
+) -> Result<Next, Refusal>
     requires { Room words.old n × (at < length text.now) × (unknowns ≤ UNKNOWNS) }
     ensures exact { of_next result words.new ≡ an_unknown edition_one text.now unknowns at (take n words.old) }
     ensures within { count_of_next result ≤ SYMBOLS }
 {
-    match read_name(text, at, unknowns, n) {
-        Numeral::Value(i, p) => {
-            words[n] = unknown_word(i);
-            Next::Done(p, n + 1)
-        }
-        Numeral::Unfit(r) => Next::Refused(r),
-    }
+    let name = read_name(text, at, unknowns, n)?;
+    words[n] = unknown_word(name.value);
+    Ok(Next::Done(name.end, n + 1))
 }
 
 // What follows at `at` the name of a functor of this arity: its bracket, exactly if it has arguments.
-fn open_arguments(text: &[u8], at: usize, arity: usize, depth: usize, n: usize) -> Next
+fn open_arguments(
+    text: &[u8],
+    at: usize,
+    arity: usize,
+    depth: usize,
+    n: usize,
+) -> Result<Next, Refusal>
     ensures exact { (l : List ℕ) → of_next result l ≡ arguments edition_one text.now depth arity at (take n l) }
     ensures within { count_of_next result ≤ n }
 {
     if peek(text, at) == bytes::ARGUMENTS_OPEN {
         if arity == 0 {
-            return Next::Refused(Refusal {
+            return Err(Refusal {
                 cause: Cause::Arguments,
                 place: at,
             });
         }
         if depth < bounds::NESTING {
-            return Next::Due(Item::Argument(arity - 1), at + 1, n);
+            return Ok(Next::Due(Item::Argument(arity - 1), at + 1, n));
         }
-        return Next::Refused(Refusal {
+        return Err(Refusal {
             cause: Cause::Nesting,
             place: at,
         });
     }
     if arity == 0 {
-        return Next::Done(at, n);
+        return Ok(Next::Done(at, n));
     }
-    Next::Refused(Refusal {
+    Err(Refusal {
         cause: Cause::Arguments,
         place: at,
     })
@@ -90,22 +94,30 @@ fn read_functor(
     depth: usize,
     words: &mut [u16],
     n: usize,
-) -> Next
+) -> Result<Next, Refusal>
     requires { Room words.old n × (at < length text.now) × (length arities.now ≤ FUNCTORS) }
     ensures exact { of_next result words.new ≡ a_functor edition_one text.now arities.now depth at (take n words.old) }
     ensures within { count_of_next result ≤ SYMBOLS }
 {
-    match read_name(text, at, arities.len(), n) {
-        Numeral::Value(k, p) => {
-            words[n] = functor_word(k);
-            open_arguments(text, p, wide(arities[k]), depth, n + 1)
-        }
-        Numeral::Unfit(r) => Next::Refused(r),
-    }
+    let name = read_name(text, at, arities.len(), n)?;
+    words[n] = functor_word(name.value);
+    open_arguments(
+        text,
+        name.end,
+        usize::from(arities[name.value]),
+        depth,
+        n + 1,
+    )
 }
 
 // The set whose opening bracket stands at `at`, up to its first member.
-fn open_set(text: &[u8], at: usize, depth: usize, words: &mut [u16], n: usize) -> Next
+fn open_set(
+    text: &[u8],
+    at: usize,
+    depth: usize,
+    words: &mut [u16],
+    n: usize,
+) -> Result<Next, Refusal>
     requires { Room words.old n × (at < length text.now) }
     ensures exact { of_next result words.new ≡ a_set edition_one text.now depth at (take n words.old) }
     ensures within { count_of_next result ≤ SYMBOLS }
@@ -116,7 +128,7 @@ fn open_set(text: &[u8], at: usize, depth: usize, words: &mut [u16], n: usize) -
     if depth < bounds::NESTING {
         return open_member(text, at + 1, words, n);
     }
-    Next::Refused(Refusal {
+    Err(Refusal {
         cause: Cause::Nesting,
         place: at,
     })
@@ -131,7 +143,7 @@ pub fn begin(
     depth: usize,
     words: &mut [u16],
     n: usize,
-) -> Next
+) -> Result<Next, Refusal>
     requires { Room words.old n × (unknowns ≤ UNKNOWNS) × (length arities.now ≤ FUNCTORS) }
     ensures exact { of_next result words.new ≡ beginning edition_one text.now unknowns arities.now depth at (take n words.old) }
     ensures within { count_of_next result ≤ SYMBOLS }
@@ -146,7 +158,7 @@ pub fn begin(
     if b == bytes::SET_OPENS {
         return open_set(text, at, depth, words, n);
     }
-    Next::Refused(Refusal {
+    Err(Refusal {
         cause: Cause::Byte,
         place: at,
     })

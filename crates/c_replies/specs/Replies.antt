@@ -4,8 +4,7 @@ use Rattle.std.specs.Prelude.{ℕ, ◌≡◌, List, [], ◌∷◌, Result, Ok, E
 use Rattle.terms.specs.Refusal.{number}
 use Rattle.terms.specs.declared.refusal.Refusal.{Refusal}
 use Rattle.search.specs.Ends.{end_number}
-use Rattle.results.specs.declared.read.Question.{Question}
-use Rattle.results.specs.declared.read.Question.TheVariants as question
+use Rattle.results.specs.declared.read.Counts.{Counts}
 use Rattle.results.specs.declared.written.Written.{Written}
 use Rattle.results.specs.declared.written.Written.TheVariants as written
 use Rattle.results.specs.declared.ran.Ending.{Ending}
@@ -38,9 +37,9 @@ pub record Replied (reply : Reply) (back : ℕ) (numbers numbers_after : List �
 -- ---- the entries' answers
 
 -- unknowns, functors, equations, words
-abbrev pub of_question : Question → Reply
-of_question (question.Read unknowns functors equations words) = granted (unknowns ∷ functors ∷ equations ∷ words ∷ [])
-of_question (question.Refused refusal) = refused refusal
+abbrev pub of_question : Result Counts Refusal → Reply
+of_question (Ok c) = granted (c.unknowns ∷ c.functors ∷ c.equations ∷ c.words ∷ [])
+of_question (Err refusal) = refused refusal
 
 -- the text's length
 abbrev pub of_written : Written → Reply

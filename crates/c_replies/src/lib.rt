@@ -10,7 +10,7 @@ ghost use Rattle.terms.specs.Refusal.{number};
 ghost use Rattle.c_replies.specs.Replies.{Replied, of_question, of_written, of_ran};
 
 use results::ran::Ending;
-use results::read::Question;
+use results::read::Counts;
 use results::written::Written;
 use search::ends::number_of_end;
 use terms::refusal::{Refusal, number_of};
@@ -26,7 +26,7 @@ pub fn tell_refusal(refusal: Refusal, place: &mut usize) -> u32
 }
 
 pub fn tell_question(
-    question: Question,
+    question: Result<Counts, Refusal>,
     unknowns: &mut usize,
     functors: &mut usize,
     equations: &mut usize,
@@ -38,14 +38,14 @@ pub fn tell_question(
         place.old place.new }
 {
     match question {
-        Question::Read(n, k, e, m) => {
-            *unknowns = n;
-            *functors = k;
-            *equations = e;
-            *used = m;
+        Ok(counts) => {
+            *unknowns = counts.unknowns;
+            *functors = counts.functors;
+            *equations = counts.equations;
+            *used = counts.words;
             0
         }
-        Question::Refused(refusal) => tell_refusal(refusal, place),
+        Err(refusal) => tell_refusal(refusal, place),
     }
 }
 

@@ -27,7 +27,6 @@ use Rattle.promises.specs.Wording.{NoLess}
 use Rattle.text.specs.Text.{question_text}
 use Rattle.text.specs.Sizes.{question-length}
 use Rattle.reader.specs.LentBuffers.{answer}
-use Rattle.results.specs.declared.read.Question.TheVariants as reading
 use Rattle.word_writer.specs.Depths.{all_within}
 use Rattle.writer.specs.Written.{too_deep_in, too_deep_in_list}
 use Rattle.results.specs.declared.written.Written.TheVariants as writing
@@ -149,7 +148,7 @@ written-then-read = texts.written-then-read
 
 -- what read_question read of a text of bytes, write_question writes as the same text
 pub read-then-written : (text arities words : List ℕ) (unknowns functors equations count : ℕ) → All (λ b. b < BYTES) text
-    → answer (text_told text arities words) ≡ reading.Read unknowns functors equations count → (buffer : List ℕ) → length text ≤ length buffer
+    → answer (text_told text arities words) ≡ Ok (record { unknowns = unknowns; functors = functors; equations = equations; words = count }) → (buffer : List ℕ) → length text ≤ length buffer
     → Writes (question_in (arities_after text arities words) (words_after text arities words) unknowns functors equations count) text buffer
 read-then-written = texts.read-then-written
 
@@ -184,7 +183,7 @@ no_exactly = comparing.no_exactly
 
 -- ---- 8. a refused call leaves every lent buffer as it was; equal and solves are lent none to write
 
-pub text_refused : (text arities words : List ℕ) (r : Refusal) → answer (text_told text arities words) ≡ reading.Refused r
+pub text_refused : (text arities words : List ℕ) (r : Refusal) → answer (text_told text arities words) ≡ Err r
     → (arities_after text arities words ≡ arities) × (words_after text arities words ≡ words)
 text_refused = refusing.text_refused
 
@@ -209,7 +208,7 @@ pub end_by_number : (e : End) → end_of (end_number e) ≡ As e
 end_by_number = listing.end_by_number
 
 -- the refusals that there may be, entry by entry
-pub text_numbers : (text arities words : List ℕ) (r : Refusal) → answer (text_told text arities words) ≡ reading.Refused r → OneOf (1 ∷ 2 ∷ 3 ∷ 4 ∷ 5 ∷ 6 ∷ 7 ∷ []) (number r.cause)
+pub text_numbers : (text arities words : List ℕ) (r : Refusal) → answer (text_told text arities words) ≡ Err r → OneOf (1 ∷ 2 ∷ 3 ∷ 4 ∷ 5 ∷ 6 ∷ 7 ∷ []) (number r.cause)
 text_numbers = numbers.text_numbers
 
 pub question-numbers : (q : Posed) (buffer : List ℕ) (r : Refusal) → question_told q buffer ≡ writing.Refused r → OneOf (3 ∷ 8 ∷ 6 ∷ 7 ∷ []) (number r.cause)

@@ -1,6 +1,6 @@
 -- The notions that proofs/Promised adds to the terms of the contracts: when a run is granted, what it is to read an answer in one way only, to write and to read a
 -- question, to compare ground terms and to try values.
-use Rattle.std.specs.Prelude.{ℕ, ◌+◌, ◌*◌, ◌≤◌, max, ◌≡◌, List, [], ◌∷◌, ◌++◌, length, take, drop}
+use Rattle.std.specs.Prelude.{ℕ, ◌+◌, ◌*◌, ◌≤◌, max, ◌≡◌, List, [], ◌∷◌, ◌++◌, length, take, drop, Ok}
 use Rattle.room.specs.Layout.{HEADER, SPARE_ROWS}
 use Rattle.terms.specs.Bounds.{edition_one, NESTING}
 use Rattle.terms.specs.Lists.{All, Any}
@@ -13,7 +13,6 @@ use Rattle.search.specs.RunLimits.{most_steps, most_depth, most_size}
 use Rattle.answers.specs.Fits.{States}
 use Rattle.text.specs.Text.{question_text}
 use Rattle.reader.specs.LentBuffers.{answer}
-use Rattle.results.specs.declared.read.Question.TheVariants.{Read}
 use Rattle.results.specs.declared.written.Written.TheVariants.{Length}
 use Rattle.guarantees.specs.Calls.{Posed, asked, Lending, loan_of, question_told, question_after, text_told, arities_after, words_after}
 
@@ -57,7 +56,7 @@ pub record Writes (q : Posed) (text buffer : List ℕ) : Type 0 where
 
 -- read_question reads q in this text: its counts, and its arities and words from the buffers' starts, and all that comes later stays
 pub record Reads (text : List ℕ) (q : Posed) (arities words : List ℕ) : Type 0 where
-  pub back : answer (text_told text arities words) ≡ Read q.unknowns (length q.arities) q.equations (length q.words)
+  pub back : answer (text_told text arities words) ≡ Ok (record { unknowns = q.unknowns; functors = length q.arities; equations = q.equations; words = length q.words })
   pub arities_hold : arities_after text arities words ≡ q.arities ++ drop (length q.arities) arities
   pub words_hold : words_after text arities words ≡ q.words ++ drop (length q.words) words
 

@@ -49,10 +49,10 @@ module _ (most : ℕ) (s : List ℕ) (p : ℕ) (ns : List ℕ) where
     arity_more zero h i = absurd (omega arith)
     arity_more (suc m) h i = let z : suc m - 1 ≡ m = omega arith in then-read _ k ∙ rw (← e, i, z)
 
-    pub arity_last : (m : ℕ) → 0 < m → (b ≡ 44 → ⊥) → b ≡ 10 → read (q + 1) (ns ++ (a ∷ [])) ≡ arity_list m most s p ns
+    pub arity_last : (m : ℕ) → 0 < m → b ≡ 10 → read (q + 1) (ns ++ (a ∷ [])) ≡ arity_list m most s p ns
     unfolding arity_list
-    arity_last zero h j i = absurd (omega arith)
-    arity_last (suc m) h j i = sym (then-read _ k ∙ rw (← e, i))
+    arity_last zero h i = absurd (omega arith)
+    arity_last (suc m) h i = sym (then-read _ k ∙ rw (← e, i))
 
     pub arity_other : (m : ℕ) → 0 < m → (b ≡ 44 → ⊥) → (b ≡ 10 → ⊥) → fault Byte q ≡ arity_list m most s p ns
     unfolding arity_list
@@ -107,5 +107,5 @@ module _ (s : List ℕ) (p q a : ℕ) (k : between 0 ARITY s p ≡ read q a) {b 
       let z : FUNCTORS - (n + 1) ≡ FUNCTORS - n - 1 = omega arith in
       rw (add-one n, take-suc-set l n a (omega arith), ← add-one n, z) (arity_more ARITY s p (take n l) q a k e (FUNCTORS - n) (omega arith) i)
 
-  pub arities-last : (b ≡ 44 → ⊥) → b ≡ 10 → read (q + 1) (take (n + 1) (set l n a)) ≡ arity_list (FUNCTORS - n) ARITY s p (take n l)
-  arities-last j i = rw (add-one n, take-suc-set l n a (omega arith)) (arity_last ARITY s p (take n l) q a k e (FUNCTORS - n) (omega arith) j i)
+  pub arities-last : b ≡ 10 → read (q + 1) (take (n + 1) (set l n a)) ≡ arity_list (FUNCTORS - n) ARITY s p (take n l)
+  arities-last i = rw (add-one n, take-suc-set l n a (omega arith)) (arity_last ARITY s p (take n l) q a k e (FUNCTORS - n) (omega arith) i)

@@ -1,2 +1,1 @@
-pub mod Headings
 pub mod HeaderLines

@@ -1,14 +1,14 @@
 -- The header of a question's text: edition, unknowns, arities, equations, a line each.
-use Rattle.std.specs.Prelude.{ℕ, zero, suc, ◌+◌, List, [], ◌∷◌, ◌++◌, eqb, take}
+use Rattle.std.specs.Prelude.{ℕ, zero, suc, ◌+◌, List, [], ◌∷◌, ◌++◌, eqb, take, Result, Ok, Err}
 use Rattle.terms.specs.Bounds.{Bounds}
 use Rattle.terms.specs.declared.refusal.Cause.TheVariants.{Byte, Limit}
+use Rattle.terms.specs.declared.refusal.Refusal.{Refusal}
 use Rattle.text.specs.Keys.{edition_key, unknowns_key, arities_key, equations_key}
 use Rattle.text.specs.Text.{choose}
 use Rattle.numerals.specs.TextReading.{Reading, read, refused, fault, and_then}
 use Rattle.numerals.specs.Bytes.{byte, meets, comma, line_feed}
 use Rattle.numerals.specs.Numbers.{between}
 use Rattle.header_reader.specs.declared.header.Heading.{Heading}
-use Rattle.header_reader.specs.declared.header.Heading.TheVariants.{Read, Refused}
 
 -- a key, a number from `low` to `high`, and LF
 unfoldable pub line : List ℕ → ℕ → ℕ → List ℕ → ℕ → Reading ℕ
@@ -44,10 +44,10 @@ header b s =
     read t (record { unknowns = n; arities = ns; equations = e })))))
 
 -- the same, of the code's answer; a list holds the arities from its start
-abbrev pub of_heading : Heading → List ℕ → Reading Header
-of_heading (Read n k e p) l = read p (record { unknowns = n; arities = take k l; equations = e })
-of_heading (Refused r) l = refused r
+abbrev pub of_heading : Result Heading Refusal → List ℕ → Reading Header
+of_heading (Ok h) l = read h.end (record { unknowns = h.unknowns; arities = take h.functors l; equations = h.equations })
+of_heading (Err r) l = refused r
 
-abbrev pub count_of_heading : Heading → ℕ
-count_of_heading (Read n k e p) = k
-count_of_heading (Refused r) = 0
+abbrev pub count_of_heading : Result Heading Refusal → ℕ
+count_of_heading (Ok h) = h.functors
+count_of_heading (Err r) = 0

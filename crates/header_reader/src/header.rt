@@ -6,7 +6,7 @@ ghost use Rattle.term_reader.specs.Terms.{of_got, count_of_got};
 ghost use Rattle.header_reader.specs.HeaderText.{line, arity_list, arity_line, header, of_heading, count_of_heading};
 
 use numerals::bytes;
-use numerals::bytes::{Met, meet, peek};
+use numerals::bytes::{meet, peek};
 use numerals::number::{Numeral, read_between};
 use term_reader::term::Got;
 use terms::bounds;
@@ -15,105 +15,94 @@ use terms::refusal::{Cause, Refusal};
 const ARITY: usize = bounds::ARITY as usize;
 
 // A line: its key, a number between two limits, and LF.
-fn read_line(text: &[u8], at: usize, key: &[u8], low: usize, high: usize) -> Numeral
+fn read_line(
+    text: &[u8],
+    at: usize,
+    key: &[u8],
+    low: usize,
+    high: usize,
+) -> Result<Numeral, Refusal>
     ensures { of_numeral result ≡ line key.now low high text.now at }
 {
-    match meet(text, at, key) {
-        Met::At(p) => match read_between(text, p, low, high) {
-            Numeral::Value(v, q) => match meet(text, q, b"\n") {
-                Met::At(r) => Numeral::Value(v, r),
-                Met::Refused(r) => Numeral::Unfit(r),
-            },
-            Numeral::Unfit(r) => Numeral::Unfit(r),
-        },
-        Met::Refused(r) => Numeral::Unfit(r),
-    }
+    let p = meet(text, at, key)?;
+    let read = read_between(text, p, low, high)?;
+    let end = meet(text, read.end, b"\n")?;
+    Ok(Numeral {
+        value: read.value,
+        end,
+    })
 }
 
 // The arities, of which one is due at `at`.
-fn read_numbers(text: &[u8], at: usize, arities: &mut [u8]) -> Got
+fn read_numbers(text: &[u8], at: usize, arities: &mut [u8]) -> Result<Got, Refusal>
     requires { length arities.old ≡ FUNCTORS }
     ensures exact { of_got result arities.new ≡ arity_list FUNCTORS ARITY text.now at [] }
     ensures within { count_of_got result ≤ FUNCTORS }
 {
     let mut p = at;
-    let mut n = 0;
-    while n < bounds::FUNCTORS {
-        match read_between(text, p, 0, ARITY) {
-            Numeral::Value(a, q) => {
-                arities[n] = a as u8;
-                let b = peek(text, q);
-                if b == bytes::COMMA {
-                    p = q + 1;
-                    n += 1;
-                } else {
-                    if b == bytes::LINE_FEED {
-                        return Got::Read(q + 1, n + 1);
-                    }
-                    return Got::Refused(Refusal {
-                        cause: Cause::Byte,
-                        place: q,
-                    });
-                }
-            }
-            Numeral::Unfit(r) => {
-                return Got::Refused(r);
-            }
+    for n in 0..bounds::FUNCTORS {
+        let read = read_between(text, p, 0, ARITY)?;
+        arities[n] = read.value as u8;
+        let b = peek(text, read.end);
+        if b == bytes::LINE_FEED {
+            return Ok(Got {
+                at: read.end + 1,
+                count: n + 1,
+            });
         }
+        if b != bytes::COMMA {
+            return Err(Refusal {
+                cause: Cause::Byte,
+                place: read.end,
+            });
+        }
+        p = read.end + 1;
     }
-    Got::Refused(Refusal {
+    Err(Refusal {
         cause: Cause::Limit,
         place: p,
     })
 }
 
 // The line of the arities: a number is due after its key unless an LF follows at once.
-fn read_arities(text: &[u8], at: usize, arities: &mut [u8]) -> Got
+fn read_arities(text: &[u8], at: usize, arities: &mut [u8]) -> Result<Got, Refusal>
     requires { length arities.old ≡ FUNCTORS }
     ensures exact { of_got result arities.new ≡ arity_line edition_one text.now at }
     ensures within { count_of_got result ≤ FUNCTORS }
 {
-    match meet(text, at, &text::ARITIES) {
-        Met::At(p) => {
-            if peek(text, p) == bytes::LINE_FEED {
-                return Got::Read(p + 1, 0);
-            }
-            read_numbers(text, p, arities)
-        }
-        Met::Refused(r) => Got::Refused(r),
+    let p = meet(text, at, &text::ARITIES)?;
+    if peek(text, p) == bytes::LINE_FEED {
+        return Ok(Got {
+            at: p + 1,
+            count: 0,
+        });
     }
+    read_numbers(text, p, arities)
 }
 
+// What the header says, and where reading goes on after it.
 #[derive(Clone, Copy)]
-pub enum Heading {
-    // unknowns, functors, equations, and where reading goes on
-    Read(usize, usize, usize, usize),
-    Refused(Refusal),
+pub struct Heading {
+    pub unknowns: usize,
+    pub functors: usize,
+    pub equations: usize,
+    pub end: usize,
 }
 
 // The four lines, with the arities at the start of a slice.
-pub fn read_header(text: &[u8], arities: &mut [u8]) -> Heading
+pub fn read_header(text: &[u8], arities: &mut [u8]) -> Result<Heading, Refusal>
     requires { length arities.old ≡ FUNCTORS }
     ensures exact { of_heading result arities.new ≡ header edition_one text.now }
     ensures within { count_of_heading result ≤ FUNCTORS }
 {
-    match read_line(text, 0, &text::EDITION, 1, 1) {
-        Numeral::Value(_, p) => match read_line(text, p, &text::UNKNOWNS, 0, bounds::UNKNOWNS) {
-            Numeral::Value(unknowns, q) => match read_arities(text, q, arities) {
-                Got::Read(r, functors) => match read_line(
-                    text,
-                    r,
-                    &text::EQUATIONS,
-                    0,
-                    bounds::EQUATIONS,
-                ) {
-                    Numeral::Value(equations, t) => Heading::Read(unknowns, functors, equations, t),
-                    Numeral::Unfit(f) => Heading::Refused(f),
-                },
-                Got::Refused(f) => Heading::Refused(f),
-            },
-            Numeral::Unfit(f) => Heading::Refused(f),
-        },
-        Numeral::Unfit(f) => Heading::Refused(f),
-    }
+    let edition = read_line(text, 0, &text::EDITION, 1, 1)?;
+    let unknowns = read_line(text, edition.end, &text::UNKNOWNS, 0, bounds::UNKNOWNS)?;
+    let functors = read_arities(text, unknowns.end, arities)?;
+    let equations = read_line(text, functors.at, &text::EQUATIONS, 0, bounds::EQUATIONS)?;
+    Ok(Heading {
+        unknowns: unknowns.value,
+        functors: functors.count,
+        equations: equations.value,
+        end: equations.end,
+    })
 }

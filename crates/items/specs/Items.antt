@@ -1,8 +1,9 @@
 -- How a term begins, and what follows an item of a list, in the order of refusals of SPECIFICATION 4.4.
 -- A member adding counts at its member's first byte, an empty set at its closing bracket.
-use Rattle.std.specs.Prelude.{ℕ, ◌+◌, ◌-◌, ◌≤◌, ◌≡◌, Bool, ◌||◌, List, [], ◌∷◌, ◌++◌, eqb, ltb, length, get_or, take}
+use Rattle.std.specs.Prelude.{ℕ, ◌+◌, ◌-◌, ◌≤◌, ◌≡◌, Bool, ◌||◌, List, [], ◌∷◌, ◌++◌, eqb, ltb, length, get_or, take, Result, Ok, Err}
 use Rattle.terms.specs.Bounds.{Bounds, SYMBOLS, EMPTY, MEMBER}
 use Rattle.terms.specs.declared.refusal.Cause.TheVariants.{Byte, Limit, Undeclared, Arguments, Nesting}
+use Rattle.terms.specs.declared.refusal.Refusal.{Refusal}
 use Rattle.text.specs.Text.{choose}
 use Rattle.numerals.specs.TextReading.{Reading, read, refused, fault, and_then}
 use Rattle.numerals.specs.Bytes.{byte, arguments_close, arguments_open, bar, comma, functor_letter, set_closes, set_opens, unknown_letter}
@@ -10,7 +11,7 @@ use Rattle.numerals.specs.Numbers.{number}
 use Rattle.items.specs.declared.item.Item.{Item}
 use Rattle.items.specs.declared.item.Item.TheVariants.{Member, Tail, Argument}
 use Rattle.items.specs.declared.item.Next.{Next}
-use Rattle.items.specs.declared.item.Next.TheVariants.{Due, Done, Refused}
+use Rattle.items.specs.declared.item.Next.TheVariants.{Due, Done}
 
 -- what comes next, with the words so far: an item, which is a term again; or nothing, as the term has ended
 pub data Coming : Type 0 where
@@ -110,15 +111,15 @@ module _ (b : Bounds) (s : List ℕ) where
   after (Argument left) p ws = after_argument s left p ws
 
 -- the same, of the code's answer, which counts the words that a list holds from its start
-abbrev pub of_next : Next → List ℕ → Reading Coming
-of_next (Due i p n) l = read p (due i (take n l))
-of_next (Done p n) l = read p (done (take n l))
-of_next (Refused r) l = refused r
+abbrev pub of_next : Result Next Refusal → List ℕ → Reading Coming
+of_next (Ok (Due i p n)) l = read p (due i (take n l))
+of_next (Ok (Done p n)) l = read p (done (take n l))
+of_next (Err r) l = refused r
 
-abbrev pub count_of_next : Next → ℕ
-count_of_next (Due i p n) = n
-count_of_next (Done p n) = n
-count_of_next (Refused r) = 0
+abbrev pub count_of_next : Result Next Refusal → ℕ
+count_of_next (Ok (Due i p n)) = n
+count_of_next (Ok (Done p n)) = n
+count_of_next (Err r) = 0
 
 -- the list l has room for as many words as a question may have, of which n are written
 pub record Room (l : List ℕ) (n : ℕ) : Type 0 where

@@ -17,13 +17,11 @@ pub enum Item {
     Argument(usize),
 }
 
-// What comes next: an item, which is a term at a place; nothing, as the term has ended there; or a refusal.
-// The last number counts the words so far.
+// What comes next: an item, which is a term at a place; or nothing, as the term has ended there. The last number counts the words so far.
 #[derive(Clone, Copy)]
 pub enum Next {
     Due(Item, usize, usize),
     Done(usize, usize),
-    Refused(Refusal),
 }
 
 // Does a term begin with this byte?
@@ -40,7 +38,7 @@ fn begins_term(b: usize) -> bool
 }
 
 // A member is due at `at`: the member adding counts there.
-pub fn open_member(text: &[u8], at: usize, words: &mut [u16], n: usize) -> Next
+pub fn open_member(text: &[u8], at: usize, words: &mut [u16], n: usize) -> Result<Next, Refusal>
     requires { Room words.old n }
     ensures exact { of_next result words.new ≡ due_member edition_one text.now at (take n words.old) }
     ensures within { count_of_next result ≤ SYMBOLS }
@@ -48,51 +46,51 @@ pub fn open_member(text: &[u8], at: usize, words: &mut [u16], n: usize) -> Next
     if begins_term(peek(text, at)) {
         if n < bounds::SYMBOLS {
             words[n] = bounds::MEMBER;
-            return Next::Due(Item::Member, at, n + 1);
+            return Ok(Next::Due(Item::Member, at, n + 1));
         }
-        return Next::Refused(Refusal {
+        return Err(Refusal {
             cause: Cause::Limit,
             place: at,
         });
     }
-    Next::Refused(Refusal {
+    Err(Refusal {
         cause: Cause::Byte,
         place: at,
     })
 }
 
 // The closing bracket at `at` ends the empty set.
-pub fn end_empty(text: &[u8], at: usize, words: &mut [u16], n: usize) -> Next
+pub fn end_empty(text: &[u8], at: usize, words: &mut [u16], n: usize) -> Result<Next, Refusal>
     requires { Room words.old n × (at < length text.now) }
     ensures exact { of_next result words.new ≡ close_empty edition_one at (take n words.old) }
     ensures within { count_of_next result ≤ SYMBOLS }
 {
     if n < bounds::SYMBOLS {
         words[n] = bounds::EMPTY;
-        return Next::Done(at + 1, n + 1);
+        return Ok(Next::Done(at + 1, n + 1));
     }
-    Next::Refused(Refusal {
+    Err(Refusal {
         cause: Cause::Limit,
         place: at,
     })
 }
 
 // The tail is due at `at`.
-fn open_tail(text: &[u8], at: usize, n: usize) -> Next
+fn open_tail(text: &[u8], at: usize, n: usize) -> Result<Next, Refusal>
     ensures exact { (l : List ℕ) → of_next result l ≡ due_tail text.now at (take n l) }
     ensures within { count_of_next result ≤ n }
 {
     if peek(text, at) == bytes::SET_OPENS {
-        return Next::Refused(Refusal {
+        return Err(Refusal {
             cause: Cause::Byte,
             place: at,
         });
     }
-    Next::Due(Item::Tail, at, n)
+    Ok(Next::Due(Item::Tail, at, n))
 }
 
 // A member has ended at `at`.
-fn pass_member(text: &[u8], at: usize, words: &mut [u16], n: usize) -> Next
+fn pass_member(text: &[u8], at: usize, words: &mut [u16], n: usize) -> Result<Next, Refusal>
     requires { Room words.old n }
     ensures exact { of_next result words.new ≡ after_member edition_one text.now at (take n words.old) }
     ensures within { count_of_next result ≤ SYMBOLS }
@@ -107,58 +105,64 @@ fn pass_member(text: &[u8], at: usize, words: &mut [u16], n: usize) -> Next
     if b == bytes::SET_CLOSES {
         return end_empty(text, at, words, n);
     }
-    Next::Refused(Refusal {
+    Err(Refusal {
         cause: Cause::Byte,
         place: at,
     })
 }
 
 // A tail has ended at `at`.
-fn pass_tail(text: &[u8], at: usize, n: usize) -> Next
+fn pass_tail(text: &[u8], at: usize, n: usize) -> Result<Next, Refusal>
     ensures exact { (l : List ℕ) → of_next result l ≡ after_tail text.now at (take n l) }
     ensures within { count_of_next result ≤ n }
 {
     if peek(text, at) == bytes::SET_CLOSES {
-        return Next::Done(at + 1, n);
+        return Ok(Next::Done(at + 1, n));
     }
-    Next::Refused(Refusal {
+    Err(Refusal {
         cause: Cause::Byte,
         place: at,
     })
 }
 
 // An argument has ended at `at`, and `left` are due after it.
-fn pass_argument(text: &[u8], at: usize, left: usize, n: usize) -> Next
+fn pass_argument(text: &[u8], at: usize, left: usize, n: usize) -> Result<Next, Refusal>
     ensures exact { (l : List ℕ) → of_next result l ≡ after_argument text.now left at (take n l) }
     ensures within { count_of_next result ≤ n }
 {
     let b = peek(text, at);
     if b == bytes::COMMA {
         if left == 0 {
-            return Next::Refused(Refusal {
+            return Err(Refusal {
                 cause: Cause::Arguments,
                 place: at,
             });
         }
-        return Next::Due(Item::Argument(left - 1), at + 1, n);
+        return Ok(Next::Due(Item::Argument(left - 1), at + 1, n));
     }
     if b == bytes::ARGUMENTS_CLOSE {
         if left == 0 {
-            return Next::Done(at + 1, n);
+            return Ok(Next::Done(at + 1, n));
         }
-        return Next::Refused(Refusal {
+        return Err(Refusal {
             cause: Cause::Arguments,
             place: at,
         });
     }
-    Next::Refused(Refusal {
+    Err(Refusal {
         cause: Cause::Byte,
         place: at,
     })
 }
 
 // An item has ended at `at`.
-pub fn pass(text: &[u8], at: usize, item: Item, words: &mut [u16], n: usize) -> Next
+pub fn pass(
+    text: &[u8],
+    at: usize,
+    item: Item,
+    words: &mut [u16],
+    n: usize,
+) -> Result<Next, Refusal>
     requires { Room words.old n }
     ensures exact { of_next result words.new ≡ after edition_one text.now item at (take n words.old) }
     ensures within { count_of_next result ≤ SYMBOLS }

@@ -27,18 +27,18 @@ ghost use Rattle.equality.specs.Answering.{equal_answer, solves_answer};
 ghost use Rattle.results.specs.Result.{RunGives, told};
 
 pub use results::ran::{Ending, Record};
-pub use results::read::Question;
+pub use results::read::Counts;
 pub use results::written::Written;
 pub use search::ends::{End, number_of_end};
 pub use terms::refusal::{Cause, Refusal, number_of};
 
 // Reads a question's text.
 //   Lent: the text; a buffer for arities, of which 256 always suffice; a buffer for words, of which 4,096 always suffice.
-//   Back: `Read(unknowns, functors, equations, words)`, counts all four; the arities and the words stand at the start of their buffers, and what
-//   comes after them is unchanged. Or `Refused`: 1 to 6, the first fault from the left; then 7 for the arities' buffer; then 7 for the words'.
-//   Example: the six lines edition=1, unknowns=1, arities=0, equations=1, left=x0, right={f0|x0} give Read(1, 1, 1, 4), arities 0, words
+//   Back: `Ok` with the counts of its unknowns, functors, equations and words; the arities and the words stand at the start of their buffers, and what
+//   comes after them is unchanged. Or `Err`: 1 to 6, the first fault from the left; then 7 for the arities' buffer; then 7 for the words'.
+//   Example: the six lines edition=1, unknowns=1, arities=0, equations=1, left=x0, right={f0|x0} give the counts 1, 1, 1 and 4, arities 0, words
 //   1000 1 2000 1000.
-pub fn read_question(text: &[u8], arities: &mut [u8], words: &mut [u16]) -> Question
+pub fn read_question(text: &[u8], arities: &mut [u8], words: &mut [u16]) -> Result<Counts, Refusal>
     ensures { ReadGives (question_into edition_one (length arities.old) (length words.old) text.now) result arities.old arities.new words.old words.new }
 {
     reader::question::read_question(text, arities, words)

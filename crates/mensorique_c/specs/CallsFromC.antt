@@ -1,8 +1,9 @@
 -- What a call of C gives that lends buffers to be read from or written to: the reply to the entry's answer, and the buffers as the entry leaves them.
-use Rattle.std.specs.Prelude.{ℕ, ◌≡◌, refl, List, [], ◌∷◌, length}
+use Rattle.std.specs.Prelude.{ℕ, ◌≡◌, refl, List, [], ◌∷◌, length, Result}
 use Rattle.numerals.specs.TextReading.{Reading, read}
 use Rattle.question_reader.specs.Questions.{Asked}
-use Rattle.results.specs.declared.read.Question.{Question}
+use Rattle.results.specs.declared.read.Counts.{Counts}
+use Rattle.terms.specs.declared.refusal.Refusal.{Refusal}
 use Rattle.reader.specs.LentBuffers.{ReadGives, answer}
 use Rattle.writer.specs.Written.{held}
 use Rattle.results.specs.declared.written.Written.{Written}
@@ -21,7 +22,7 @@ pub record WriteReplied (w : Written) (text : List ℕ) (back : ℕ) (numbers nu
 -- ---- so a call gives it that hands on the entry's answer
 
 module _ {back : ℕ} {numbers numbers_after : List ℕ} {place place_after : ℕ} where
-  pub read_replied : {x : Reading Asked} {question : Question} {arities arities_after words words_after : List ℕ} → ReadGives x question arities arities_after words words_after
+  pub read_replied : {x : Reading Asked} {question : Result Counts Refusal} {arities arities_after words words_after : List ℕ} → ReadGives x question arities arities_after words words_after
       → Replied (of_question question) back numbers numbers_after place place_after → ReadReplied x back numbers numbers_after place place_after arities arities_after words words_after
   read_replied g h = record { reply = rw g.told_back at h; gives = rw g.told_back at g }
 

@@ -1,7 +1,7 @@
 -- Laws of digits and numbers, as the code's tests meet them.
 use Prim.Native.Nat.{ℕ, zero, suc, ◌+◌, ◌-◌, ◌*◌, ◌≤◌, ◌<◌}
 use native.Mathlib.Omega.{arith}
-use mathlib.Core.Path.{◌≡◌, refl, sym, ap, ◌∙◌}
+use mathlib.Core.Path.{◌≡◌, refl, sym, ◌∙◌}
 use mathlib.Core.List.{List}
 use borrow.Author.Tests.{ne_eqb, lt-ltb, le-ltb, ltb-true, ltb-false}
 use lib.Dec.{ltb}
@@ -12,9 +12,7 @@ use Rattle.terms.specs.declared.refusal.Refusal.{Refusal}
 use Rattle.text.specs.Text.{choose}
 use Rattle.numerals.specs.TextReading.{read, refused, fault, then-read, then-refused}
 use Rattle.numerals.specs.Bytes.{byte, in_text}
-use Rattle.numerals.specs.Numbers.{digit, digits, number, between, of_numeral, digit-above}
-use Rattle.numerals.specs.declared.number.Numeral.{Numeral}
-use Rattle.numerals.specs.declared.number.Numeral.TheVariants.{Value, Unfit}
+use Rattle.numerals.specs.Numbers.{digit, digits, number, between, digit-above}
 
 -- a byte that is a digit is a byte of the text
 pub digit_in : (s : List ℕ) (p : ℕ) → digit (byte s p) < 10 → p < length s
@@ -87,21 +85,21 @@ room_most (suc (suc (suc (suc zero)))) v h = omega arith
 room_most (suc (suc (suc (suc (suc n))))) v h = absurd (omega arith)
 
 -- a number was read, or refused, at p
-module _ (low high : ℕ) (s : List ℕ) (p : ℕ) {r : Numeral} (e : of_numeral r ≡ number s p) where
-  pub between-refused : (f : Refusal) → r ≡ Unfit f → between low high s p ≡ refused f
+module _ (low high : ℕ) (s : List ℕ) (p : ℕ) where
+  pub between-refused : (f : Refusal) → refused f ≡ number s p → refused f ≡ between low high s p
   unfolding between
-  between-refused f k = then-refused _ (sym e ∙ ap of_numeral k)
+  between-refused f e = sym (then-refused _ (sym e))
 
-  module _ (v q : ℕ) (k : r ≡ Value v q) where
+  module _ {v q : ℕ} (e : read q v ≡ number s p) where
     between_is : between low high s p ≡ choose (ltb v low) (λ _. fault Limit p) (λ _. choose (ltb high v) (λ _. fault Limit p) (λ _. read q v))
     unfolding between
-    between_is = then-read _ (sym e ∙ ap of_numeral k)
+    between_is = then-read _ (sym e)
 
-    pub between-below : v < low → between low high s p ≡ fault Limit p
-    between-below h = between_is ∙ rw (lt-ltb v low h)
+    pub between-below : v < low → fault Limit p ≡ between low high s p
+    between-below h = sym (between_is ∙ rw (lt-ltb v low h))
 
-    pub between-above : low ≤ v → high < v → between low high s p ≡ fault Limit p
-    between-above l h = between_is ∙ rw (le-ltb v low l, lt-ltb high v h)
+    pub between-above : low ≤ v → high < v → fault Limit p ≡ between low high s p
+    between-above l h = sym (between_is ∙ rw (le-ltb v low l, lt-ltb high v h))
 
-    pub between-read : low ≤ v → v ≤ high → between low high s p ≡ read q v
-    between-read l h = between_is ∙ rw (le-ltb v low l, le-ltb high v h)
+    pub between-read : low ≤ v → v ≤ high → read q v ≡ between low high s p
+    between-read l h = sym (between_is ∙ rw (le-ltb v low l, le-ltb high v h))

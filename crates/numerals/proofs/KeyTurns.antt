@@ -8,10 +8,10 @@ use lib.ListN.{length, get_or, drop, drop_of_length-le}
 use lib.Seq.{drop-cons}
 use Rattle.terms.specs.declared.refusal.Cause.TheVariants.{Byte}
 use Rattle.numerals.specs.Bytes.{byte, met}
-use Rattle.numerals.specs.declared.bytes.Met.TheVariants.{At, Refused}
+use Rattle.std.proofs.Common.{Ok, Err}
 
 module _ (s key : List ℕ) (p i : ℕ) where
-  pub met_all : length key ≤ i → met s (drop i key) p ≡ At p
+  pub met_all : length key ≤ i → met s (drop i key) p ≡ Ok p
   unfolding met
   met_all h = rw (drop_of_length-le key h)
 
@@ -20,6 +20,6 @@ module _ (s key : List ℕ) (p i : ℕ) where
     unfolding met
     met_same e = rw (drop-cons key i 0 h, add-one i) (rw (eq-eqb (byte s p) (get_or key i 0) e))
 
-    pub met_other : (byte s p ≡ get_or key i 0 → ⊥) → met s (drop i key) p ≡ Refused (record { cause = Byte; place = p })
+    pub met_other : (byte s p ≡ get_or key i 0 → ⊥) → met s (drop i key) p ≡ Err (record { cause = Byte; place = p })
     unfolding met
     met_other e = rw (drop-cons key i 0 h) (rw (ne_eqb (byte s p) (get_or key i 0) e))

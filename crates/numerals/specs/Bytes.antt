@@ -1,13 +1,12 @@
 -- Bytes of a text: the byte at a place, and a run of bytes that is due there.
-use Rattle.std.specs.Prelude.{ℕ, zero, suc, ◌+◌, ◌≤◌, ◌<◌, ◌≡◌, refl, List, [], ◌∷◌, eqb, length, get_or}
+use Rattle.std.specs.Prelude.{ℕ, zero, suc, ◌+◌, ◌≤◌, ◌<◌, ◌≡◌, refl, List, [], ◌∷◌, eqb, length, get_or, Result, Ok, Err}
 use Rattle.std.proofs.Common.{arith}
 use Rattle.std.proofs.Math.ListN.{get_or-eq_default}
 use Rattle.terms.specs.declared.refusal.Cause.TheVariants.{Byte}
+use Rattle.terms.specs.declared.refusal.Refusal.{Refusal}
 use Rattle.terms.specs.Bounds.{BYTES}
 use Rattle.text.specs.Text.{choose}
 use Rattle.numerals.specs.TextReading.{Reading, read, refused}
-use Rattle.numerals.specs.declared.bytes.Met.{Met}
-use Rattle.numerals.specs.declared.bytes.Met.TheVariants.{At, Refused}
 
 -- the bytes that the text form has beside keys and digits: x f { } | , ( ) and LF; and what a text that has stopped reads as
 abbrev pub unknown_letter : ℕ
@@ -45,14 +44,14 @@ unfoldable pub byte : List ℕ → ℕ → ℕ
 byte s p = get_or s p stopped
 
 -- the bytes of a key, due at p; the first that differs is refused
-unfoldable pub met : List ℕ → List ℕ → ℕ → Met
-met s [] p = At p
+unfoldable pub met : List ℕ → List ℕ → ℕ → Result ℕ Refusal
+met s [] p = Ok p
 met s (b ∷ key) p =
-    choose (eqb (byte s p) b) (λ _. met s key (p + 1)) (λ _. Refused (record { cause = Byte; place = p }))
+    choose (eqb (byte s p) b) (λ _. met s key (p + 1)) (λ _. Err (record { cause = Byte; place = p }))
 
-abbrev pub of_met : {A : Type 0} → A → Met → Reading A
-of_met a (At p) = read p a
-of_met a (Refused r) = refused r
+abbrev pub of_met : {A : Type 0} → A → Result ℕ Refusal → Reading A
+of_met a (Ok p) = read p a
+of_met a (Err r) = refused r
 
 -- the key is due at p, after a was read
 unfoldable pub meets : {A : Type 0} → List ℕ → List ℕ → ℕ → A → Reading A

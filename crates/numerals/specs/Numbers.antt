@@ -1,13 +1,13 @@
 -- Numbers of a text: plain decimal, without a leading zero, of at most five digits.
-use Rattle.std.specs.Prelude.{ℕ, zero, suc, ◌+◌, ◌-◌, ◌*◌, ◌≤◌, ◌<◌, ◌≡◌, List, eqb, ltb}
+use Rattle.std.specs.Prelude.{ℕ, zero, suc, ◌+◌, ◌-◌, ◌*◌, ◌≤◌, ◌<◌, ◌≡◌, List, eqb, ltb, Result, Ok, Err}
 use Rattle.std.proofs.Common.{arith, ltb-false, lt-ltb, le-ltb}
 use Rattle.terms.specs.Lists.{cases}
 use Rattle.terms.specs.declared.refusal.Cause.TheVariants.{Number, Limit}
+use Rattle.terms.specs.declared.refusal.Refusal.{Refusal}
 use Rattle.text.specs.Text.{choose}
 use Rattle.numerals.specs.TextReading.{Reading, read, refused, fault, and_then}
 use Rattle.numerals.specs.Bytes.{byte}
 use Rattle.numerals.specs.declared.number.Numeral.{Numeral}
-use Rattle.numerals.specs.declared.number.Numeral.TheVariants.{Value, Unfit}
 
 -- the value of the digit b, or 10 where b is none
 unfoldable pub digit : ℕ → ℕ
@@ -48,9 +48,9 @@ between low high s p =
     (λ q v. choose (ltb v low) (λ _. fault Limit p) (λ _. choose (ltb high v) (λ _. fault Limit p) (λ _. read q v)))
 
 -- the same, of the code's answer
-abbrev pub of_numeral : Numeral → Reading ℕ
-of_numeral (Value v p) = read p v
-of_numeral (Unfit r) = refused r
+abbrev pub of_numeral : Result Numeral Refusal → Reading ℕ
+of_numeral (Ok n) = read n.end n.value
+of_numeral (Err r) = refused r
 
 -- a number that was read is within its limit
 pub between-most : (low high : ℕ) (s : List ℕ) (p q v : ℕ) → between low high s p ≡ read q v → v ≤ high

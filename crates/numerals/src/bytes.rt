@@ -25,45 +25,29 @@ pub const LINE_FEED: usize = 10;
 
 pub const STOPPED: usize = 256;
 
-pub fn wide(b: u8) -> usize
-    ensures { result ≡ b }
-{
-    b as usize
-}
-
 // The byte at `at`, or 256 where the text has stopped.
 pub fn peek(text: &[u8], at: usize) -> usize
     ensures { result ≡ byte text.now at }
 {
     if at < text.len() {
-        return wide(text[at]);
+        return usize::from(text[at]);
     }
     STOPPED
 }
 
-// What was due is there, and reading goes on after it; or the first byte that differs.
-#[derive(Clone, Copy)]
-pub enum Met {
-    At(usize),
-    Refused(Refusal),
-}
-
-// The bytes of `key`, due at `at`.
-pub fn meet(text: &[u8], at: usize, key: &[u8]) -> Met
+// The bytes of `key`, due at `at`: where reading goes on after them, or the first byte that differs.
+pub fn meet(text: &[u8], at: usize, key: &[u8]) -> Result<usize, Refusal>
     ensures { result ≡ met text.now key.now at }
 {
     let mut p = at;
-    let mut i = 0;
-    while i < key.len() {
-        let b = wide(key[i]);
-        if peek(text, p) != b {
-            return Met::Refused(Refusal {
+    for b in key {
+        if peek(text, p) != usize::from(*b) {
+            return Err(Refusal {
                 cause: Cause::Byte,
                 place: p,
             });
         }
         p += 1;
-        i += 1;
     }
-    Met::At(p)
+    Ok(p)
 }

@@ -5,11 +5,11 @@ ghost use Rattle.numerals.specs.Numbers.{digit, digits, number, between, of_nume
 use crate::bytes::peek;
 use terms::refusal::{Cause, Refusal};
 
-// A number and where reading goes on, or why it is none.
+// A number that was read, and where reading goes on after it.
 #[derive(Clone, Copy)]
-pub enum Numeral {
-    Value(usize, usize),
-    Unfit(Refusal),
+pub struct Numeral {
+    pub value: usize,
+    pub end: usize,
 }
 
 // The value of the digit b, or 10 where b is none.
@@ -26,7 +26,7 @@ pub fn digit_of(b: usize) -> usize
 }
 
 // The digits at `at` after a first digit; `from` is the number's first byte.
-pub fn read_digits(text: &[u8], from: usize, at: usize, first: usize) -> Numeral
+pub fn read_digits(text: &[u8], from: usize, at: usize, first: usize) -> Result<Numeral, Refusal>
     requires { first < 10 }
     ensures { of_numeral result ≡ digits 4 text.now from at first }
 {
@@ -36,10 +36,10 @@ pub fn read_digits(text: &[u8], from: usize, at: usize, first: usize) -> Numeral
     loop {
         let d = digit_of(peek(text, p));
         if 10 <= d {
-            return Numeral::Value(v, p);
+            return Ok(Numeral { value: v, end: p });
         }
         if left == 0 {
-            return Numeral::Unfit(Refusal {
+            return Err(Refusal {
                 cause: Cause::Limit,
                 place: from,
             });
@@ -51,48 +51,41 @@ pub fn read_digits(text: &[u8], from: usize, at: usize, first: usize) -> Numeral
 }
 
 // The number at `at`.
-pub fn read_number(text: &[u8], at: usize) -> Numeral
+pub fn read_number(text: &[u8], at: usize) -> Result<Numeral, Refusal>
     ensures { of_numeral result ≡ number text.now at }
 {
     let first = digit_of(peek(text, at));
     if 10 <= first {
-        return Numeral::Unfit(Refusal {
+        return Err(Refusal {
             cause: Cause::Number,
             place: at,
         });
     }
     if first == 0 {
         if digit_of(peek(text, at + 1)) < 10 {
-            return Numeral::Unfit(Refusal {
+            return Err(Refusal {
                 cause: Cause::Number,
                 place: at,
             });
         }
-        return Numeral::Value(0, at + 1);
+        return Ok(Numeral {
+            value: 0,
+            end: at + 1,
+        });
     }
     read_digits(text, at, at + 1, first)
 }
 
 // The number at `at`, which is to lie between two limits.
-pub fn read_between(text: &[u8], at: usize, low: usize, high: usize) -> Numeral
+pub fn read_between(text: &[u8], at: usize, low: usize, high: usize) -> Result<Numeral, Refusal>
     ensures { of_numeral result ≡ between low high text.now at }
 {
-    match read_number(text, at) {
-        Numeral::Value(v, p) => {
-            if v < low {
-                return Numeral::Unfit(Refusal {
-                    cause: Cause::Limit,
-                    place: at,
-                });
-            }
-            if high < v {
-                return Numeral::Unfit(Refusal {
-                    cause: Cause::Limit,
-                    place: at,
-                });
-            }
-            Numeral::Value(v, p)
-        }
-        Numeral::Unfit(r) => Numeral::Unfit(r),
+    let read = read_number(text, at)?;
+    if read.value < low || high < read.value {
+        return Err(Refusal {
+            cause: Cause::Limit,
+            place: at,
+        });
     }
+    Ok(read)
 }

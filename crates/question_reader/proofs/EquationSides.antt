@@ -1,5 +1,6 @@
 -- The sides of equations, and the whole of a text.
-use Prim.Native.Nat.{ℕ, zero, suc, ◌-◌, ◌*◌, ◌≤◌, ◌<◌}
+use Prim.Native.Nat.{ℕ, zero, suc, ◌+◌, ◌*◌, ◌≤◌, ◌<◌}
+use native.Mathlib.Numerals.{add-one}
 use native.Mathlib.Omega.{arith}
 use mathlib.Core.Path.{◌≡◌, refl, sym, ap, ◌∙◌}
 use mathlib.Core.List.{List, [], ◌∷◌}
@@ -49,16 +50,15 @@ module _ (s : List ℕ) (unknowns : ℕ) (arities : List ℕ) where
     unfolding equation
     left-read q vs e = sym (then-read _ e)
 
-    pub equations-more : (n q : ℕ) (vs : List ℕ) → (n ≡ 0 → ⊥) → equation edition_one s unknowns arities p ws ≡ read q vs
-        → equations edition_one s unknowns arities n p ws ≡ equations edition_one s unknowns arities (n - 1) q vs
+    pub equations-more : (n m q : ℕ) (vs : List ℕ) → n ≡ m + 1 → equation edition_one s unknowns arities p ws ≡ read q vs
+        → equations edition_one s unknowns arities n p ws ≡ equations edition_one s unknowns arities m q vs
     unfolding equations
-    equations-more zero q vs h e = absurd (h refl)
-    equations-more (suc n) q vs h e = let z : suc n - 1 ≡ n = omega arith in rw z (then-read _ e)
+    equations-more n m q vs h e = rw (h, add-one m) (then-read _ e)
 
-    pub equations-stop : (n : ℕ) (f : Refusal) → (n ≡ 0 → ⊥) → equation edition_one s unknowns arities p ws ≡ refused f
+    pub equations-stop : (n : ℕ) (f : Refusal) → 0 < n → equation edition_one s unknowns arities p ws ≡ refused f
         → equations edition_one s unknowns arities n p ws ≡ refused f
     unfolding equations
-    equations-stop zero f h e = absurd (h refl)
+    equations-stop zero f h e = absurd (omega arith)
     equations-stop (suc n) f h e = then-refused _ e
 
     module _ {b : ℕ} (e : b ≡ byte s p) where

@@ -1,15 +1,15 @@
 -- A question's text: its header, two terms for each equation, left then right, with nothing after.
-use Rattle.std.specs.Prelude.{ℕ, zero, suc, ◌≤◌, List, [], ◌∷◌, eqb, length, take}
+use Rattle.std.specs.Prelude.{ℕ, zero, suc, ◌≤◌, List, [], ◌∷◌, eqb, length, take, Result, Ok, Err}
 use Rattle.terms.specs.Bounds.{Bounds, FUNCTORS, SYMBOLS}
 use Rattle.terms.specs.declared.refusal.Cause.TheVariants.{Byte}
+use Rattle.terms.specs.declared.refusal.Refusal.{Refusal}
 use Rattle.text.specs.Keys.{left_key, right_key}
 use Rattle.text.specs.Text.{choose}
 use Rattle.numerals.specs.TextReading.{Reading, read, refused, fault, and_then}
 use Rattle.numerals.specs.Bytes.{byte, meets, line_feed, stopped}
 use Rattle.term_reader.specs.Terms.{whole_term}
 use Rattle.header_reader.specs.HeaderText.{Header, header}
-use Rattle.results.specs.declared.read.Question.{Question}
-use Rattle.results.specs.declared.read.Question.TheVariants.{Read, Refused}
+use Rattle.results.specs.declared.read.Counts.{Counts}
 
 module _ (b : Bounds) (s : List ℕ) (unknowns : ℕ) (arities : List ℕ) where
   -- one side of an equation: its key, a term, and LF
@@ -36,11 +36,11 @@ question b s =
     and_then (equations b s h.unknowns h.arities h.equations p []) (λ q ws. read q (record { head = h; words = ws })))
 
 -- what the code's answer tells of a text of so many bytes, before it is laid out
-abbrev pub of_question : ℕ → Question → List ℕ → List ℕ → Reading Asked
-of_question len (Read n k e m) ns ws = read len (record { head = record { unknowns = n; arities = take k ns; equations = e }; words = take m ws })
-of_question len (Refused r) ns ws = refused r
+abbrev pub of_question : ℕ → Result Counts Refusal → List ℕ → List ℕ → Reading Asked
+of_question len (Ok c) ns ws = read len (record { head = record { unknowns = c.unknowns; arities = take c.functors ns; equations = c.equations }; words = take c.words ws })
+of_question len (Err r) ns ws = refused r
 
 -- the counts of the code's answer are within the arrays that it reads into
-abbrev pub Counts : Question → Type 0
-Counts (Read n k e m) = (k ≤ FUNCTORS) × (m ≤ SYMBOLS)
-Counts (Refused r) = Unit {0}
+abbrev pub WithinArrays : Result Counts Refusal → Type 0
+WithinArrays (Ok c) = (c.functors ≤ FUNCTORS) × (c.words ≤ SYMBOLS)
+WithinArrays (Err r) = Unit {0}

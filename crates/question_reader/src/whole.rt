@@ -3,12 +3,12 @@ ghost use Rattle.std.specs.Prelude.{◌≡◌, [], ◌≤◌, length, take};
 ghost use Rattle.terms.specs.Bounds.{edition_one, UNKNOWNS, FUNCTORS, SYMBOLS};
 ghost use Rattle.items.specs.Items.{Room};
 ghost use Rattle.term_reader.specs.Terms.{of_got, count_of_got};
-ghost use Rattle.question_reader.specs.Questions.{side, equation, equations, question, of_question, Counts};
+ghost use Rattle.question_reader.specs.Questions.{side, equation, equations, question, of_question, WithinArrays};
 
-use header_reader::header::{Heading, read_header};
+use header_reader::header::read_header;
 use numerals::bytes;
-use numerals::bytes::{Met, meet, peek};
-use results::read::Question;
+use numerals::bytes::{meet, peek};
+use results::read::Counts;
 use term_reader::term::{Got, read_term};
 use terms::refusal::{Cause, Refusal};
 
@@ -21,21 +21,18 @@ fn read_side(
     arities: &[u8],
     words: &mut [u16],
     n: usize,
-) -> Got
+) -> Result<Got, Refusal>
     requires { Room words.old n × (at ≤ length text.now) × (unknowns ≤ UNKNOWNS) × (length arities.now ≤ FUNCTORS) }
     ensures exact { of_got result words.new ≡ side edition_one text.now unknowns arities.now key.now at (take n words.old) }
     ensures within { count_of_got result ≤ SYMBOLS }
 {
-    match meet(text, at, key) {
-        Met::At(p) => match read_term(text, p, unknowns, arities, 0, words, n) {
-            Got::Read(q, m) => match meet(text, q, b"\n") {
-                Met::At(r) => Got::Read(r, m),
-                Met::Refused(r) => Got::Refused(r),
-            },
-            Got::Refused(r) => Got::Refused(r),
-        },
-        Met::Refused(r) => Got::Refused(r),
-    }
+    let p = meet(text, at, key)?;
+    let got = read_term(text, p, unknowns, arities, 0, words, n)?;
+    let end = meet(text, got.at, b"\n")?;
+    Ok(Got {
+        at: end,
+        count: got.count,
+    })
 }
 
 // An equation: its left side and its right side.
@@ -46,15 +43,21 @@ fn read_equation(
     arities: &[u8],
     words: &mut [u16],
     n: usize,
-) -> Got
+) -> Result<Got, Refusal>
     requires { Room words.old n × (at ≤ length text.now) × (unknowns ≤ UNKNOWNS) × (length arities.now ≤ FUNCTORS) }
     ensures exact { of_got result words.new ≡ equation edition_one text.now unknowns arities.now at (take n words.old) }
     ensures within { count_of_got result ≤ SYMBOLS }
 {
-    match read_side(text, at, &text::LEFT, unknowns, arities, words, n) {
-        Got::Read(p, m) => read_side(text, p, &text::RIGHT, unknowns, arities, words, m),
-        Got::Refused(r) => Got::Refused(r),
-    }
+    let left = read_side(text, at, &text::LEFT, unknowns, arities, words, n)?;
+    read_side(
+        text,
+        left.at,
+        &text::RIGHT,
+        unknowns,
+        arities,
+        words,
+        left.count,
+    )
 }
 
 // So many equations, and the text's end.
@@ -65,48 +68,49 @@ fn read_equations(
     unknowns: usize,
     arities: &[u8],
     words: &mut [u16],
-) -> Got
+) -> Result<Got, Refusal>
     requires { (length words.old ≡ SYMBOLS) × (at ≤ length text.now) × (unknowns ≤ UNKNOWNS) × (length arities.now ≤ FUNCTORS) }
     ensures exact { of_got result words.new ≡ equations edition_one text.now unknowns arities.now count at [] }
     ensures within { count_of_got result ≤ SYMBOLS }
 {
-    let mut left = count;
     let mut p = at;
     let mut n = 0;
-    while left != 0 {
-        match read_equation(text, p, unknowns, arities, words, n) {
-            Got::Read(q, m) => {
-                p = q;
-                n = m;
-                left -= 1;
-            }
-            Got::Refused(r) => {
-                return Got::Refused(r);
-            }
-        }
+    for _ in 0..count {
+        let got = read_equation(text, p, unknowns, arities, words, n)?;
+        p = got.at;
+        n = got.count;
     }
     if peek(text, p) == bytes::STOPPED {
-        return Got::Read(text.len(), n);
+        return Ok(Got {
+            at: text.len(),
+            count: n,
+        });
     }
-    Got::Refused(Refusal {
+    Err(Refusal {
         cause: Cause::Byte,
         place: p,
     })
 }
 
 // The whole text, with its arities and its words at the start of a slice each.
-pub fn read_whole(text: &[u8], table: &mut [u8], held: &mut [u16]) -> Question
+pub fn read_whole(text: &[u8], table: &mut [u8], held: &mut [u16]) -> Result<Counts, Refusal>
     requires { (length table.old ≡ FUNCTORS) × (length held.old ≡ SYMBOLS) }
     ensures exact { of_question (length text.now) result table.new held.new ≡ question edition_one text.now }
-    ensures within { Counts result }
+    ensures within { WithinArrays result }
 {
-    match read_header(text, table) {
-        Heading::Read(unknowns, functors, count, at) => {
-            match read_equations(text, at, count, unknowns, &table[..functors], held) {
-                Got::Read(_, n) => Question::Read(unknowns, functors, count, n),
-                Got::Refused(r) => Question::Refused(r),
-            }
-        }
-        Heading::Refused(r) => Question::Refused(r),
-    }
+    let head = read_header(text, table)?;
+    let got = read_equations(
+        text,
+        head.end,
+        head.equations,
+        head.unknowns,
+        &table[..head.functors],
+        held,
+    )?;
+    Ok(Counts {
+        unknowns: head.unknowns,
+        functors: head.functors,
+        equations: head.equations,
+        words: got.count,
+    })
 }

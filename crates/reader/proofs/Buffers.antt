@@ -1,7 +1,7 @@
 -- The entry's answer and its buffers: a question that fits is laid out, and a refusal leaves both buffers alone.
 use Prim.Native.Nat.{ℕ, ◌≤◌, ◌<◌}
 use native.Mathlib.Omega.{arith}
-use mathlib.Core.Path.{◌≡◌, sym, ap, ◌∙◌}
+use mathlib.Core.Path.{◌≡◌, sym, ◌∙◌}
 use mathlib.Core.List.{List, ◌++◌}
 use borrow.Author.Tests.{lt-ltb, le-ltb}
 use lib.ListN.{length, take, drop}
@@ -10,36 +10,36 @@ use Rattle.terms.specs.Bounds.{Bounds, edition_one, FUNCTORS, SYMBOLS}
 use Rattle.terms.specs.declared.refusal.Cause.TheVariants.{Buffer}
 use Rattle.terms.specs.declared.refusal.Refusal.{Refusal}
 use Rattle.numerals.specs.TextReading.{read, refused, then-read, then-refused}
-use Rattle.question_reader.specs.Questions.{Asked, question, of_question, Counts}
+use Rattle.question_reader.specs.Questions.{Asked, question, of_question, WithinArrays}
 use Rattle.reader.specs.LentBuffers.{fitted, question_into, answer, laid, arities_of, words_of, ReadGives}
-use Rattle.results.specs.declared.read.Question.{Question}
-use Rattle.results.specs.declared.read.Question.TheVariants.{Read, Refused}
+use Rattle.results.specs.declared.read.Counts.{Counts}
+use Rattle.std.proofs.Common.{Result, Ok, Err}
 
 -- what the entry gives, of a text s and buffers that held ns and ws: its answer, and what they hold now
-abbrev pub Gives : Bounds → List ℕ → List ℕ → List ℕ → Question → List ℕ → List ℕ → Type 0
+abbrev pub Gives : Bounds → List ℕ → List ℕ → List ℕ → Result Counts Refusal → List ℕ → List ℕ → Type 0
 Gives b s ns ws r ns_after ws_after = ReadGives (question_into b (length ns) (length ws) s) r ns ns_after ws ws_after
 
 module _ (b : Bounds) (s ns ws : List ℕ) where
-  refuse : (f : Refusal) → question_into b (length ns) (length ws) s ≡ refused f → Gives b s ns ws (Refused f) ns ws
+  refuse : (f : Refusal) → question_into b (length ns) (length ws) s ≡ refused f → Gives b s ns ws (Err f) ns ws
   unfolding answer laid
   refuse f e = record { told_back = rw e; arities_laid = rw e; words_laid = rw e }
 
-  pub gives_refusal : (f : Refusal) → question b s ≡ refused f → Gives b s ns ws (Refused f) ns ws
+  pub gives_refusal : (f : Refusal) → question b s ≡ refused f → Gives b s ns ws (Err f) ns ws
   unfolding question_into
   gives_refusal f e = refuse f (then-refused _ e)
 
   module _ (p : ℕ) (q : Asked) (e : question b s ≡ read p q) where
-    pub few_arities : length ns < length (arities_of q) → Gives b s ns ws (Refused (record { cause = Buffer; place = length (arities_of q) })) ns ws
+    pub few_arities : length ns < length (arities_of q) → Gives b s ns ws (Err (record { cause = Buffer; place = length (arities_of q) })) ns ws
     unfolding question_into fitted
     few_arities h = refuse _ (then-read _ e ∙ rw (lt-ltb (length ns) (length (arities_of q)) h))
 
     module _ (h : length (arities_of q) ≤ length ns) where
-      pub few_words : length ws < length (words_of q) → Gives b s ns ws (Refused (record { cause = Buffer; place = length (words_of q) })) ns ws
+      pub few_words : length ws < length (words_of q) → Gives b s ns ws (Err (record { cause = Buffer; place = length (words_of q) })) ns ws
       unfolding question_into fitted
       few_words k = refuse _ (then-read _ e ∙ rw (le-ltb (length ns) (length (arities_of q)) h, lt-ltb (length ws) (length (words_of q)) k))
 
       pub gives_question : length (words_of q) ≤ length ws
-          → Gives b s ns ws (Read q.head.unknowns (length (arities_of q)) q.head.equations (length (words_of q)))
+          → Gives b s ns ws (Ok (record { unknowns = q.head.unknowns; functors = length (arities_of q); equations = q.head.equations; words = length (words_of q) }))
           (arities_of q ++ drop (length (arities_of q)) ns) (words_of q ++ drop (length (words_of q)) ws)
       unfolding question_into fitted answer laid
       gives_question k =
@@ -48,32 +48,30 @@ module _ (b : Bounds) (s ns ws : List ℕ) where
 
 -- ---- as the code has it: the text was read into a table and a row of words, whose first parts are laid out
 
-pub counts : {r : Question} → Counts r → (u k n m : ℕ) → r ≡ Read u k n m → (k ≤ FUNCTORS) × (m ≤ SYMBOLS)
-counts C u k n m i = rw i at C
+module _ (s ns ws : List ℕ) where
+  pub whole-refused : (f : Refusal) → refused f ≡ question edition_one s → Gives edition_one s ns ws (Err f) ns ws
+  whole-refused f e = gives_refusal edition_one s ns ws f (sym e)
 
-module _ (s ns ws table held : List ℕ) {r : Question} (e : of_question (length s) r table held ≡ question edition_one s)
-    (long : length table ≡ FUNCTORS) (wide : length held ≡ SYMBOLS) where
-  pub whole-refused : (f : Refusal) → r ≡ Refused f → Gives edition_one s ns ws (Refused f) ns ws
-  whole-refused f i = gives_refusal edition_one s ns ws f (sym e ∙ ap (λ (r : Question). of_question (length s) r table held) i)
+  module _ (table held : List ℕ) (c : Counts) (e : of_question (length s) (Ok c) table held ≡ question edition_one s)
+      (long : length table ≡ FUNCTORS) (wide : length held ≡ SYMBOLS) (C : WithinArrays (Ok c)) where
+    table_length : length (take c.functors table) ≡ c.functors
+    table_length = length-take-le c.functors table (omega (arith, C.0))
 
-  module _ (C : Counts r) (u k n m : ℕ) (i : r ≡ Read u k n m) where
-    table_length : length (take k table) ≡ k
-    table_length = length-take-le k table (omega (arith, (counts C u k n m i).0))
-
-    held-length : length (take m held) ≡ m
-    held-length = length-take-le m held (omega (arith, (counts C u k n m i).1))
+    held-length : length (take c.words held) ≡ c.words
+    held-length = length-take-le c.words held (omega (arith, C.1))
 
     abbrev it : Asked
-    it = record { head = record { unknowns = u; arities = take k table; equations = n }; words = take m held }
+    it = record { head = record { unknowns = c.unknowns; arities = take c.functors table; equations = c.equations }; words = take c.words held }
 
     is_it : question edition_one s ≡ read (length s) it
-    is_it = sym e ∙ ap (λ (r : Question). of_question (length s) r table held) i
+    is_it = sym e
 
-    pub table_too_long : length ns < k → Gives edition_one s ns ws (Refused (record { cause = Buffer; place = k })) ns ws
+    pub table_too_long : length ns < c.functors → Gives edition_one s ns ws (Err (record { cause = Buffer; place = c.functors })) ns ws
     table_too_long h = rw table_length at (few_arities edition_one s ns ws (length s) it is_it (rw table_length h))
 
-    pub held_too_long : k ≤ length ns → length ws < m → Gives edition_one s ns ws (Refused (record { cause = Buffer; place = m })) ns ws
+    pub held_too_long : c.functors ≤ length ns → length ws < c.words → Gives edition_one s ns ws (Err (record { cause = Buffer; place = c.words })) ns ws
     held_too_long f h = rw held-length at (few_words edition_one s ns ws (length s) it is_it (rw table_length f) (rw held-length h))
 
-    pub all_laid : k ≤ length ns → m ≤ length ws → Gives edition_one s ns ws (Read u k n m) (take k table ++ drop k ns) (take m held ++ drop m ws)
+    pub all_laid : c.functors ≤ length ns → c.words ≤ length ws
+        → Gives edition_one s ns ws (Ok c) (take c.functors table ++ drop c.functors ns) (take c.words held ++ drop c.words ws)
     all_laid f h = rw (table_length, held-length) at (gives_question edition_one s ns ws (length s) it is_it (rw table_length f) (rw held-length h))

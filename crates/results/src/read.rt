@@ -1,9 +1,10 @@
 // What reading a question gives.
-use terms::refusal::Refusal;
 
+// How many unknowns, functors, equations and words a question has.
 #[derive(Clone, Copy)]
-pub enum Question {
-    // unknowns, functors, equations, words
-    Read(usize, usize, usize, usize),
-    Refused(Refusal),
+pub struct Counts {
+    pub unknowns: usize,
+    pub functors: usize,
+    pub equations: usize,
+    pub words: usize,
 }

@@ -7,7 +7,7 @@ use Rattle.std.proofs.Math.ListN.{get_or}
 use Rattle.std.proofs.Math.Seq.{get_or-drop, drop-append_seam}
 use Rattle.numerals.specs.TextReading.{read}
 use Rattle.numerals.specs.Bytes.{byte, met, meets, stopped}
-use Rattle.numerals.specs.declared.bytes.Met.TheVariants.{At}
+use Rattle.std.specs.Prelude.{Ok}
 
 module _ (s : List ℕ) (p : ℕ) where
   pub first_byte : (x : ℕ) (r : List ℕ) → drop p s ≡ x ∷ r → byte s p ≡ x
@@ -35,12 +35,12 @@ module _ (s : List ℕ) (p : ℕ) where
   unread w e = sym (length-drop p s) ∙ ap length e
 
 -- a key that stands there is met
-pub key_there : (s key r : List ℕ) (p : ℕ) → drop p s ≡ key ++ r → met s key p ≡ At (p + length key)
+pub key_there : (s key r : List ℕ) (p : ℕ) → drop p s ≡ key ++ r → met s key p ≡ Ok (p + length key)
 unfolding met
 key_there s [] r p e = rw add-zero
 key_there s (b ∷ key) r p e =
     let z : p + 1 + length key ≡ p + suc (length key) = omega arith in
-    rw (eq-eqb (byte s p) b (first_byte s p b (key ++ r) e)) (key_there s key r (p + 1) (after-byte s p b (key ++ r) e) ∙ ap At z)
+    rw (eq-eqb (byte s p) b (first_byte s p b (key ++ r) e)) (key_there s key r (p + 1) (after-byte s p b (key ++ r) e) ∙ ap Ok z)
 
 pub key_read : {A : Type 0} (s key r : List ℕ) (p : ℕ) (a : A) → drop p s ≡ key ++ r → meets s key p a ≡ read (p + length key) a
 unfolding meets

@@ -9,11 +9,11 @@ use beginnings::beginning::begin;
 use items::item::{Item, Next, pass};
 use terms::refusal::Refusal;
 
-// Where reading goes on and how many words there are; or a refusal.
+// Where reading goes on, and how many words there are; or arities, where they are read.
 #[derive(Clone, Copy)]
-pub enum Got {
-    Read(usize, usize),
-    Refused(Refusal),
+pub struct Got {
+    pub at: usize,
+    pub count: usize,
 }
 
 // The term at `at`, with `depth` brackets open.
@@ -26,15 +26,14 @@ pub fn read_term(
     depth: usize,
     words: &mut [u16],
     n: usize,
-) -> Got
+) -> Result<Got, Refusal>
     requires { Room words.old n × (at ≤ length text.now) × (unknowns ≤ UNKNOWNS) × (length arities.now ≤ FUNCTORS) }
     ensures exact { (fuel : ℕ) → 2 * (length text.now - at) < fuel → of_got result words.new ≡ term edition_one text.now unknowns arities.now fuel depth at (take n words.old) }
     ensures within { count_of_got result ≤ SYMBOLS }
 {
-    match begin(text, at, unknowns, arities, depth, words, n) {
+    match begin(text, at, unknowns, arities, depth, words, n)? {
         Next::Due(item, p, m) => read_list(text, p, unknowns, arities, depth + 1, item, words, m),
-        Next::Done(p, m) => Got::Read(p, m),
-        Next::Refused(r) => Got::Refused(r),
+        Next::Done(p, m) => Ok(Got { at: p, count: m }),
     }
 }
 
@@ -49,7 +48,7 @@ fn read_list(
     first: Item,
     words: &mut [u16],
     n: usize,
-) -> Got
+) -> Result<Got, Refusal>
     requires { Room words.old n × (at ≤ length text.now) × (unknowns ≤ UNKNOWNS) × (length arities.now ≤ FUNCTORS) }
     ensures exact { (fuel : ℕ) → 2 * (length text.now - at) + 1 < fuel → of_got result words.new ≡ list edition_one text.now unknowns arities.now fuel depth first at (take n words.old) }
     ensures within { count_of_got result ≤ SYMBOLS }
@@ -58,22 +57,15 @@ fn read_list(
     let mut p = at;
     let mut m = n;
     loop {
-        match read_term(text, p, unknowns, arities, depth, words, m) {
-            Got::Read(q, k) => match pass(text, q, item, words, k) {
-                Next::Due(i, r, l) => {
-                    item = i;
-                    p = r;
-                    m = l;
-                }
-                Next::Done(r, l) => {
-                    return Got::Read(r, l);
-                }
-                Next::Refused(r) => {
-                    return Got::Refused(r);
-                }
-            },
-            Got::Refused(r) => {
-                return Got::Refused(r);
+        let got = read_term(text, p, unknowns, arities, depth, words, m)?;
+        match pass(text, got.at, item, words, got.count)? {
+            Next::Due(i, r, l) => {
+                item = i;
+                p = r;
+                m = l;
+            }
+            Next::Done(r, l) => {
+                return Ok(Got { at: r, count: l });
             }
         }
     }

@@ -11,9 +11,8 @@ use Rattle.terms.specs.declared.refusal.Refusal.{Refusal}
 use Rattle.numerals.specs.TextReading.{Reading, read}
 use Rattle.numerals.specs.TextReading as reading
 use Rattle.question_reader.specs.Questions.{Asked}
-use Rattle.results.specs.declared.read.Question.{Question}
-use Rattle.results.specs.declared.read.Question.TheVariants.{Read}
-use Rattle.results.specs.declared.read.Question.TheVariants as question
+use Rattle.results.specs.declared.read.Counts.{Counts}
+use Rattle.std.proofs.Common.{Result, Ok, Err}
 use Rattle.reader.specs.LentBuffers.{ReadGives, answer, laid}
 use Rattle.results.specs.Loans.{ending}
 use Rattle.results.specs.declared.ran.Ending.{Ending}
@@ -27,33 +26,30 @@ within xs ys = omega (arith, length-append xs ys)
 -- ---- from reading to running
 
 -- a question was read: its arities and its words are within their buffers, and what is found for the text is found for them
-pub record Taken (x : Reading Asked) (u k n m : ℕ) (ns ws : List ℕ) : Type 0 where
-  pub functors : k ≤ length ns
-  pub count : m ≤ length ws
-  pub runs : of_reading x ≡ of_words u (take k ns) n (take m ws)
+pub record Taken (x : Reading Asked) (c : Counts) (ns ws : List ℕ) : Type 0 where
+  pub functors : c.functors ≤ length ns
+  pub count : c.words ≤ length ws
+  pub runs : of_reading x ≡ of_words c.unknowns (take c.functors ns) c.equations (take c.words ws)
 
 module _ {ns ns_after ws ws_after : List ℕ} where
-  pub question-taken : {x : Reading Asked} {back : Question} {u k n m : ℕ} → ReadGives x back ns ns_after ws ws_after → back ≡ Read u k n m → Taken x u k n m ns_after ws_after
+  pub question-taken : {x : Reading Asked} {back : Result Counts Refusal} {c : Counts} → ReadGives x back ns ns_after ws ws_after → back ≡ Ok c → Taken x c ns_after ws_after
   unfolding answer laid of_reading
-  question-taken {x} {back} {u} {k} {n} {m} g is = go x g
+  question-taken {x} {back} {c} g is = go x g
     where
-      go : (x : Reading Asked) → ReadGives x back ns ns_after ws ws_after → Taken x u k n m ns_after ws_after
+      go : (x : Reading Asked) → ReadGives x back ns ns_after ws ws_after → Taken x c ns_after ws_after
       go (reading.refused r) g = let e = g.told_back in let z : ◌≡◌ {A = ℕ} 0 1 = cc in absurd (omega arith)
       go (read p q) g =
           let e = g.told_back in
           let arities = q.head.arities in
           let words = q.words in
-          let unknowns : u ≡ q.head.unknowns = cc in
-          let functors : k ≡ length arities = cc in
-          let equations : n ≡ q.head.equations = cc in
-          let count : m ≡ length words = cc in
-          rw (unknowns, functors, equations, count, g.arities_laid, g.words_laid) (record {
+          let same : c ≡ record { unknowns = q.head.unknowns; functors = length arities; equations = q.head.equations; words = length words } = cc in
+          rw (same, g.arities_laid, g.words_laid) (record {
             functors = within arities (drop (length arities) ns);
             count = within words (drop (length words) ws);
             runs = rw (take-append_seam arities (drop (length arities) ns), take-append_seam words (drop (length words) ws)) refl;
           })
 
-  pub text_refused : {x : Reading Asked} {back : Question} {r : Refusal} → ReadGives x back ns ns_after ws ws_after → back ≡ question.Refused r → of_reading x ≡ refused r
+  pub text_refused : {x : Reading Asked} {back : Result Counts Refusal} {r : Refusal} → ReadGives x back ns ns_after ws ws_after → back ≡ Err r → of_reading x ≡ refused r
   unfolding answer of_reading
   text_refused {x} {back} {r} g is = go x g.told_back
     where

@@ -6,7 +6,7 @@
 ghost use Rattle.std.specs.Prelude.{◌≡◌, length};
 ghost use Rattle.printing.specs.Solved.{OUTPUT, Prints, printed, of_words, solved};
 
-use mensorique::{Question, read_question, run};
+use mensorique::{read_question, run};
 use printing::{OUTPUT, print_list, print_refusal};
 use terms::bounds;
 
@@ -61,13 +61,13 @@ pub fn solve_text(text: &[u8], output: &mut [u8; OUTPUT]) -> usize
     let mut arities = [0u8; bounds::FUNCTORS];
     let mut words = [0u16; bounds::SYMBOLS];
     match read_question(text, &mut arities, &mut words) {
-        Question::Read(unknowns, functors, equations, count) => solve_words(
-            unknowns,
-            &arities[..functors],
-            equations,
-            &words[..count],
+        Ok(counts) => solve_words(
+            counts.unknowns,
+            &arities[..counts.functors],
+            counts.equations,
+            &words[..counts.words],
             output,
         ),
-        Question::Refused(refusal) => print_refusal(refusal, output),
+        Err(refusal) => print_refusal(refusal, output),
     }
 }

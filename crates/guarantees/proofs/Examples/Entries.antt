@@ -1,5 +1,5 @@
 -- The lines of `Promised` about texts, ground terms, refusals and numbers, 5 to 9, applied to specimens.
-use Rattle.std.specs.Prelude.{ℕ, ◌≤◌, ◌<◌, ◌≡◌, refl, List, [], ◌∷◌, ◌++◌, ◌⊎◌, length, take, replicate}
+use Rattle.std.specs.Prelude.{ℕ, ◌≤◌, ◌<◌, ◌≡◌, refl, List, [], ◌∷◌, ◌++◌, ◌⊎◌, length, take, replicate, Err}
 use Rattle.std.proofs.Common.{arith}
 use Rattle.terms.specs.Bounds.{edition_one, BYTES, NESTING}
 use Rattle.terms.specs.Lists.{All, all}
@@ -25,7 +25,6 @@ use Rattle.header_reader.specs.HeaderText as header
 use Rattle.reader.specs.LentBuffers.{question_into, answer}
 use Rattle.question_reader.specs.Questions as reader
 use Rattle.question_reader.specs.WholePlaces.{literal}
-use Rattle.results.specs.declared.read.Question.TheVariants as reading
 use Rattle.word_writer.specs.Pen.{counted}
 use Rattle.word_writer.specs.Depths.{depths, row_depths, all_within, found, first_above}
 use Rattle.lines.specs.ListLines.{binding_depths, list_depths}
@@ -142,7 +141,7 @@ no = (Promised.no_exactly question (0 ∷ [])).0 refl
 -- ---- 8 and 9
 
 -- a text that stops at once
-no_text : answer (text_told [] (9 ∷ []) (9 ∷ [])) ≡ reading.Refused (record { cause = Byte; place = 0 })
+no_text : answer (text_told [] (9 ∷ []) (9 ∷ [])) ≡ Err (record { cause = Byte; place = 0 })
 unfolding question_into reader.question header header.line meets met byte answer and_then
 no_text = refl
 

@@ -1,5 +1,5 @@
 -- Which numbers of SPECIFICATION 6.2 and 7 an entry may refuse with, and a run may end with.
-use Rattle.std.specs.Prelude.{ℕ, suc, zero, ◌+◌, ◌≡◌, refl, Bool, true, false, cond, Err, List, [], ◌∷◌, ◌++◌, ◌⊎◌, eqb, leb, ltb, length}
+use Rattle.std.specs.Prelude.{ℕ, suc, zero, ◌+◌, ◌≡◌, refl, Bool, true, false, cond, Err, List, [], ◌∷◌, ◌++◌, ◌⊎◌, eqb, leb, ltb, length, Result, Ok}
 use Rattle.std.proofs.lemmas.Bool.{false≢true}
 use Rattle.std.proofs.Common.{inl, inr, Option, Some, None}
 use Rattle.terms.specs.Bounds.{edition_one}
@@ -29,9 +29,9 @@ use Rattle.numerals.specs.TextReading.{Reading, and_then}
 use Rattle.term_reader.specs.ReadingPlaces.{Placed, goes_on, stops}
 use Rattle.reader.specs.LentBuffers.{question_into, answer}
 use Rattle.question_reader.specs.Questions as reader
+use Rattle.results.specs.declared.read.Counts.{Counts}
 use Rattle.reader.specs.LentBuffers as lent
 use Rattle.question_reader.specs.WholePlaces.{question_placed}
-use Rattle.results.specs.declared.read.Question.TheVariants as reading
 use Rattle.word_writer.specs.Depths.{First}
 use Rattle.writer.specs.Written.{tested, question_written, list_written, check_list}
 use Rattle.results.specs.declared.written.Written.TheVariants as writing
@@ -188,20 +188,20 @@ of_text WordsMeaningless e = absurd (false≢true e)
 of_text WordsUndeclared e = absurd (false≢true e)
 of_text WordsLeft e = absurd (false≢true e)
 
-pub text_numbers : (text arities words : List ℕ) (r : Refusal) → answer (text_told text arities words) ≡ reading.Refused r → OneOf (1 ∷ 2 ∷ 3 ∷ 4 ∷ 5 ∷ 6 ∷ 7 ∷ []) (number r.cause)
+pub text_numbers : (text arities words : List ℕ) (r : Refusal) → answer (text_told text arities words) ≡ Err r → OneOf (1 ∷ 2 ∷ 3 ∷ 4 ∷ 5 ∷ 6 ∷ 7 ∷ []) (number r.cause)
 unfolding answer question_into lent.fitted and_then
 text_numbers text arities words r e = go (question_placed edition_one text) e
   where
-    seven : (place : ℕ) → reading.Refused (record { cause = Buffer; place = place }) ≡ reading.Refused r → OneOf (1 ∷ 2 ∷ 3 ∷ 4 ∷ 5 ∷ 6 ∷ 7 ∷ []) (number r.cause)
+    seven : (place : ℕ) → ◌≡◌ {A = Result Counts Refusal} (Err (record { cause = Buffer; place = place })) (Err r) → OneOf (1 ∷ 2 ∷ 3 ∷ 4 ∷ 5 ∷ 6 ∷ 7 ∷ []) (number r.cause)
     seven place e = let z : record { cause = Buffer; place = place } ≡ r = cc in rw (← z) (there (there (there (there (there (there (here refl)))))))
 
-    go : {P : reader.Asked → Type 0} {low : ℕ} {x : Reading reader.Asked} → Placed text low P x → answer (and_then x (lent.fitted (length arities) (length words))) ≡ reading.Refused r
+    go : {P : reader.Asked → Type 0} {low : ℕ} {x : Reading reader.Asked} → Placed text low P x → answer (and_then x (lent.fitted (length arities) (length words))) ≡ Err r
         → OneOf (1 ∷ 2 ∷ 3 ∷ 4 ∷ 5 ∷ 6 ∷ 7 ∷ []) (number r.cause)
     go (stops cause p small h) e = let z : record { cause = cause; place = p } ≡ r = cc in rw (← z) (of_text cause small)
     go (goes_on q {a} l h x) e =
         cases (ltb (length arities) (length a.head.arities)) (λ t. seven _ (rw t at e))
         (λ f. cases (ltb (length words) (length a.words)) (λ t. seven _ (rw (f, t) at e))
-        (λ g. let x : reading.Read _ _ _ _ ≡ reading.Refused r = rw (f, g) at e in impossible (cc)))
+        (λ g. let x : ◌≡◌ {A = Result Counts Refusal} (Ok _) (Err r) = rw (f, g) at e in impossible (cc)))
 
 -- ---- of ends
 

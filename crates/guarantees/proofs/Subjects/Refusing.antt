@@ -1,24 +1,23 @@
 -- Refused calls: each leaves the buffers lent to it as they were.
-use Rattle.std.specs.Prelude.{ℕ, ◌≡◌, refl, List}
+use Rattle.std.specs.Prelude.{ℕ, ◌≡◌, refl, List, Err}
 use Rattle.std.proofs.Common.{ap, ◌∙◌, Err}
 use Rattle.room.specs.Room.{put-nil}
 use Rattle.terms.specs.declared.refusal.Refusal.{Refusal}
 use Rattle.numerals.specs.TextReading.{Reading, read, refused}
 use Rattle.reader.specs.LentBuffers.{answer, laid}
 use Rattle.question_reader.specs.Questions as reader
-use Rattle.results.specs.declared.read.Question.TheVariants as reading
 use Rattle.writer.specs.Written.{held}
 use Rattle.results.specs.declared.written.Written.TheVariants as writing
 use Rattle.results.specs.Result.{Told, refuses, gives, result, words_told}
 use Rattle.guarantees.specs.Calls.{Posed, Lending, run_told, answers_after, question_told, question_after, list_told, list_after, text_told, arities_after, words_after}
 use Rattle.guarantees.proofs.Subjects.{impossible}
 
-pub text_refused : (text arities words : List ℕ) (r : Refusal) → answer (text_told text arities words) ≡ reading.Refused r
+pub text_refused : (text arities words : List ℕ) (r : Refusal) → answer (text_told text arities words) ≡ Err r
     → (arities_after text arities words ≡ arities) × (words_after text arities words ≡ words)
 unfolding answer laid
 text_refused text arities words r e = go (text_told text arities words) refl e
   where
-    go : (x : Reading reader.Asked) → text_told text arities words ≡ x → answer x ≡ reading.Refused r → (arities_after text arities words ≡ arities) × (words_after text arities words ≡ words)
+    go : (x : Reading reader.Asked) → text_told text arities words ≡ x → answer x ≡ Err r → (arities_after text arities words ≡ arities) × (words_after text arities words ≡ words)
     go (read p a) s e = impossible (cc)
     go (refused s) t e = (rw t, rw t)
 

@@ -1,5 +1,5 @@
 -- Reading and writing, of the entries: which questions are written, and that what was written is read back and what was read is written back.
-use Rattle.std.specs.Prelude.{ℕ, ◌≤◌, ◌<◌, ◌≡◌, refl, List, [], ◌∷◌, ◌++◌, ◌↔◌, ltb, length, take, drop}
+use Rattle.std.specs.Prelude.{ℕ, ◌≤◌, ◌<◌, ◌≡◌, refl, List, [], ◌∷◌, ◌++◌, ◌↔◌, ltb, length, take, drop, Ok, Err}
 use Rattle.std.proofs.Common.{ap, sym, ◌∙◌, arith, ltb-false, le-ltb}
 use Rattle.std.proofs.Math.Seq.{take-append_seam}
 use Rattle.terms.specs.Bounds.{edition_one, edition_one_proper, NESTING, BYTES}
@@ -19,9 +19,7 @@ use Rattle.question_reader.specs.Questions.{question as asks_of}
 use Rattle.reader.specs.LentBuffers.{question_into, answer, laid}
 use Rattle.question_reader.specs.Questions as reader
 use Rattle.reader.specs.LentBuffers as lent
-use Rattle.results.specs.declared.read.Question.{Question as Counted}
-use Rattle.results.specs.declared.read.Question.TheVariants.{Read}
-use Rattle.results.specs.declared.read.Question.TheVariants as question
+use Rattle.results.specs.declared.read.Counts.{Counts}
 use Rattle.roundtrip.specs.QuestionText as there
 use Rattle.roundtrip.specs.QuestionSpans.{ComesFrom, comes_from}
 use Rattle.roundtrip.specs.QuestionSpans as back
@@ -150,8 +148,8 @@ written-then-read q n buffer e arities words h k =
 -- ---- what was read is written back
 
 -- what is given back of what was read
-abbrev counts : reader.Asked → Counted
-counts a = Read a.head.unknowns (length a.head.arities) a.head.equations (length a.words)
+abbrev counts : reader.Asked → Counts
+counts a = record { unknowns = a.head.unknowns; functors = length a.head.arities; equations = a.head.equations; words = length a.words }
 
 -- a was read of a text, into buffers that hold it
 record Took (text arities words : List ℕ) (a : reader.Asked) : Type 0 where
@@ -159,20 +157,20 @@ record Took (text arities words : List ℕ) (a : reader.Asked) : Type 0 where
   asks : asks_of edition_one text ≡ read to a
   told : text_told text arities words ≡ read to a
 
-took : (text arities words : List ℕ) (unknowns functors equations count : ℕ) → answer (text_told text arities words) ≡ Read unknowns functors equations count
-    → (a : reader.Asked) × Took text arities words a × (counts a ≡ Read unknowns functors equations count)
+took : (text arities words : List ℕ) (unknowns functors equations count : ℕ) → answer (text_told text arities words) ≡ Ok (record { unknowns = unknowns; functors = functors; equations = equations; words = count })
+    → (a : reader.Asked) × Took text arities words a × (counts a ≡ record { unknowns = unknowns; functors = functors; equations = equations; words = count })
 unfolding answer question_into lent.fitted and_then
 took text arities words unknowns functors equations count e = go (asks_of edition_one text) refl e
   where
-    go : (x : Reading reader.Asked) → asks_of edition_one text ≡ x → answer (and_then x (lent.fitted (length arities) (length words))) ≡ Read unknowns functors equations count
-        → (a : reader.Asked) × Took text arities words a × (counts a ≡ Read unknowns functors equations count)
+    go : (x : Reading reader.Asked) → asks_of edition_one text ≡ x → answer (and_then x (lent.fitted (length arities) (length words))) ≡ Ok (record { unknowns = unknowns; functors = functors; equations = equations; words = count })
+        → (a : reader.Asked) × Took text arities words a × (counts a ≡ record { unknowns = unknowns; functors = functors; equations = equations; words = count })
     go (refused r) s e = impossible (cc)
     go (read p a) s e =
         cases (ltb (length arities) (length a.head.arities))
-        (λ t. let x : question.Refused _ ≡ Read unknowns functors equations count = rw t at e in impossible (cc))
+        (λ t. let x : Err _ ≡ Ok (record { unknowns = unknowns; functors = functors; equations = equations; words = count }) = rw t at e in impossible (cc))
         (λ f. cases (ltb (length words) (length a.words))
-        (λ t. let x : question.Refused _ ≡ Read unknowns functors equations count = rw (f, t) at e in impossible (cc))
-        (λ g. (a, record { to = p; asks = s; told = read_into text arities words p a s (ltb-false _ _ f) (ltb-false _ _ g) }, rw (f, g) at e)))
+        (λ t. let x : Err _ ≡ Ok (record { unknowns = unknowns; functors = functors; equations = equations; words = count }) = rw (f, t) at e in impossible (cc))
+        (λ g. (a, record { to = p; asks = s; told = read_into text arities words p a s (ltb-false _ _ f) (ltb-false _ _ g) }, let y : Ok (counts a) ≡ Ok (record { unknowns = unknowns; functors = functors; equations = equations; words = count }) = rw (f, g) at e in cc)))
 
 abbrev posed : reader.Asked → Posed
 posed a = record { unknowns = a.head.unknowns; arities = a.head.arities; equations = a.head.equations; words = a.words }
@@ -192,18 +190,18 @@ writes_back text a (comes_from g good nests same written) buffer fits =
     rw (ap posed same, ← written) (good_written g good nests buffer (rw written fits))
 
 pub read-then-written : (text arities words : List ℕ) (unknowns functors equations count : ℕ) → All (λ b. b < BYTES) text
-    → answer (text_told text arities words) ≡ Read unknowns functors equations count → (buffer : List ℕ) → length text ≤ length buffer
+    → answer (text_told text arities words) ≡ Ok (record { unknowns = unknowns; functors = functors; equations = equations; words = count }) → (buffer : List ℕ) → length text ≤ length buffer
     → Writes (question_in (arities_after text arities words) (words_after text arities words) unknowns functors equations count) text buffer
 read-then-written text arities words unknowns functors equations count bytes e buffer fits =
     let t = took text arities words unknowns functors equations count e in
     go t.0 t.1 t.2
   where
-    go : (a : reader.Asked) → Took text arities words a → counts a ≡ Read unknowns functors equations count
+    go : (a : reader.Asked) → Took text arities words a → counts a ≡ record { unknowns = unknowns; functors = functors; equations = equations; words = count }
         → Writes (question_in (arities_after text arities words) (words_after text arities words) unknowns functors equations count) text buffer
     go a t r =
-        let u : a.head.unknowns ≡ unknowns = cc in
-        let k : length a.head.arities ≡ functors = cc in
-        let n : a.head.equations ≡ equations = cc in
-        let c : length a.words ≡ count = cc in
+        let u : a.head.unknowns ≡ unknowns = ap (λ (c : Counts). c.unknowns) r in
+        let k : length a.head.arities ≡ functors = ap (λ (c : Counts). c.functors) r in
+        let n : a.head.equations ≡ equations = ap (λ (c : Counts). c.equations) r in
+        let c : length a.words ≡ count = ap (λ (c : Counts). c.words) r in
         rw (← u, ← k, ← n, ← c, question-held text arities words t.to a t.told)
         (writes_back text a (back.read-then-written edition_one text bytes t.to a t.asks) buffer fits)

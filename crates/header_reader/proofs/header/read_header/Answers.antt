@@ -1,34 +1,33 @@
 -- `read_header`: each answer is that of the first line that was refused, or of all four.
-use native.Mathlib.Omega.{arith}
-use Rattle.terms.specs.Bounds.{FUNCTORS}
-use Rattle.term_reader.specs.ReadingAnswers.{is_value, is_unfit, is_read, is_stopped, read_count}
+use mathlib.Core.Path.{sym}
+use Rattle.std.proofs.lemmas.Result.{err_from_is_err_and}
 use Rattle.header_reader.proofs.HeaderLines.{no_edition, no_unknowns, no_arities, no_equations, headed}
 use Rattle.header_reader.proofs.header.read_header.Goals as goal
 
-pub returns-in-Value-read_line-2 : goal.returns-in-Value-read_line-2
-returns-in-Value-read_line-2 c = record {
-  exact = headed _ _ _ (is_value c.read_line.ensures _ _ c.in-Value.is) _ _ (is_value c.read_line-in-Value.ensures _ _ c.in-Value-read_line.is) _
-      _ (is_read _ c.read_arities.ensures.exact _ _ c.in-Read.is) _ _ (is_value c.read_line-in-Read.ensures _ _ c.in-Value-read_line-2.is);
-  within = read_count FUNCTORS _ _ c.in-Read.is c.read_arities.ensures.within;
-}
+pub returns-in_err-edition-clause-exact : goal.returns-in_err-edition-clause-exact
+returns-in_err-edition-clause-exact c =
+    let p = err_from_is_err_and c.from_residual.result c.from_residual.ensures.1 in
+    rw (p.1, p.2) (no_edition _ _ (sym c.in_err-edition.ensures))
 
-pub returns-in-Unfit-read_line-2 : goal.returns-in-Unfit-read_line-2
-returns-in-Unfit-read_line-2 c = record {
-  exact = no_equations _ _ _ (is_value c.read_line.ensures _ _ c.in-Value.is) _ _
-      (is_value c.read_line-in-Value.ensures _ _ c.in-Value-read_line.is) _ _ (is_read _ c.read_arities.ensures.exact _ _ c.in-Read.is) _
-      (is_unfit c.read_line-in-Read.ensures _ c.in-Unfit-read_line-2.is);
-  within = omega arith;
-}
+pub returns-in_err-unknowns-clause-exact : goal.returns-in_err-unknowns-clause-exact
+returns-in_err-unknowns-clause-exact c =
+    let p = err_from_is_err_and c.from_residual-in_err-unknowns.result c.from_residual-in_err-unknowns.ensures.1 in
+    rw (p.1, p.2) (no_unknowns _ _ _ (sym c.in_ok-edition.ensures) _ (sym c.in_err-unknowns.ensures))
 
-pub returns-in-Refused : goal.returns-in-Refused
-returns-in-Refused c = record {
-  exact = no_arities _ _ _ (is_value c.read_line.ensures _ _ c.in-Value.is) _ _
-      (is_value c.read_line-in-Value.ensures _ _ c.in-Value-read_line.is) _ (is_stopped _ c.read_arities.ensures.exact _ c.in-Refused.is);
-  within = omega arith;
-}
+pub returns-in_err-functors-clause-exact : goal.returns-in_err-functors-clause-exact
+returns-in_err-functors-clause-exact c =
+    let p = err_from_is_err_and c.from_residual-in_err-functors.result c.from_residual-in_err-functors.ensures.1 in
+    rw (p.1, p.2)
+    (no_arities _ _ _ (sym c.in_ok-edition.ensures) _ _ (sym c.in_ok-unknowns.ensures) _ (sym c.in_err-functors.ensures.exact))
 
-pub returns-in-Unfit-read_line : goal.returns-in-Unfit-read_line
-returns-in-Unfit-read_line c = record { exact = no_unknowns _ _ _ (is_value c.read_line.ensures _ _ c.in-Value.is) _ (is_unfit c.read_line-in-Value.ensures _ c.in-Unfit-read_line.is); within = omega arith }
+pub returns-in_err-equations-clause-exact : goal.returns-in_err-equations-clause-exact
+returns-in_err-equations-clause-exact c =
+    let p = err_from_is_err_and c.from_residual-in_err-equations.result c.from_residual-in_err-equations.ensures.1 in
+    rw (p.1, p.2)
+    (no_equations _ _ _ (sym c.in_ok-edition.ensures) _ _ (sym c.in_ok-unknowns.ensures) _ _ (sym c.in_ok-functors.ensures.exact) _
+    (sym c.in_err-equations.ensures))
 
-pub returns-in-Unfit : goal.returns-in-Unfit
-returns-in-Unfit c = record { exact = no_edition _ _ (is_unfit c.read_line.ensures _ c.in-Unfit.is); within = omega arith }
+pub returns-clause-exact : goal.returns-clause-exact
+returns-clause-exact c =
+    headed _ _ _ (sym c.in_ok-edition.ensures) _ _ (sym c.in_ok-unknowns.ensures) _ _ (sym c.in_ok-functors.ensures.exact) _ _
+    (sym c.in_ok-equations.ensures)

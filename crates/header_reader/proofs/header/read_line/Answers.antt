@@ -1,24 +1,28 @@
 -- `read_line`: each answer is that of the first part that was refused, or of all three.
 use mathlib.Core.Path.{sym, ◌∙◌}
-use Rattle.term_reader.specs.ReadingAnswers.{is_met, is_unmet, is_value, is_unfit}
+use Rattle.std.proofs.lemmas.Result.{err_from_is_err_and}
+use Rattle.term_reader.specs.ReadingAnswers.{is_met, is_unmet}
 use Rattle.header_reader.proofs.HeaderLines.{line_unmet, line_unfit, line-number}
 use Rattle.header_reader.proofs.header.read_line.Goals as goal
 
-pub returns-in-At-meet : goal.returns-in-At-meet
-returns-in-At-meet c =
-    sym (is_met _ _ _ _ c.meet-in-Value.ensures _ c.in-At-meet.is)
-    ∙ line-number _ _ _ _ _ _ (is_met _ _ _ _ c.meet.ensures _ c.in-At.is) _ _
-    (is_value c.read_between.ensures _ _ c.in-Value.is)
+pub returns-in_err-p : goal.returns-in_err-p
+returns-in_err-p c =
+    let p = err_from_is_err_and c.from_residual.result c.from_residual.ensures.1 in
+    rw (p.1, p.2) (line_unmet _ _ _ _ _ _ (is_unmet _ _ _ _ c.meet.ensures _ c.in_err-p.was))
 
-pub returns-in-Refused-meet : goal.returns-in-Refused-meet
-returns-in-Refused-meet c =
-    sym (is_unmet _ _ _ _ c.meet-in-Value.ensures _ c.in-Refused-meet.is)
-    ∙ line-number _ _ _ _ _ _ (is_met _ _ _ _ c.meet.ensures _ c.in-At.is) _ _
-    (is_value c.read_between.ensures _ _ c.in-Value.is)
+pub returns-in_err-read : goal.returns-in_err-read
+returns-in_err-read c =
+    let p = err_from_is_err_and c.from_residual-in_err-read.result c.from_residual-in_err-read.ensures.1 in
+    rw (p.1, p.2) (line_unfit _ _ _ _ _ _ (is_met _ _ _ _ c.meet.ensures _ c.in_ok-p.was) _ (sym c.in_err-read.ensures))
 
-pub returns-in-Unfit : goal.returns-in-Unfit
-returns-in-Unfit c =
-    line_unfit _ _ _ _ _ _ (is_met _ _ _ _ c.meet.ensures _ c.in-At.is) _ (is_unfit c.read_between.ensures _ c.in-Unfit.is)
+pub returns-in_err-end : goal.returns-in_err-end
+returns-in_err-end c =
+    let p = err_from_is_err_and c.from_residual-in_err-end.result c.from_residual-in_err-end.ensures.1 in
+    rw (p.1, p.2)
+    (sym (is_unmet _ _ _ _ c.meet-2.ensures _ c.in_err-end.was)
+    ∙ line-number _ _ _ _ _ _ (is_met _ _ _ _ c.meet.ensures _ c.in_ok-p.was) _ c.in_ok-read.read.value (sym c.in_ok-read.ensures))
 
-pub returns-in-Refused : goal.returns-in-Refused
-returns-in-Refused c = line_unmet _ _ _ _ _ _ (is_unmet _ _ _ _ c.meet.ensures _ c.in-Refused.is)
+pub returns : goal.returns
+returns c =
+    sym (is_met _ _ _ _ c.meet-2.ensures _ c.in_ok-end.was)
+    ∙ line-number _ _ _ _ _ _ (is_met _ _ _ _ c.meet.ensures _ c.in_ok-p.was) _ _ (sym c.in_ok-read.ensures)

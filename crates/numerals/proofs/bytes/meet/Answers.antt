@@ -4,22 +4,22 @@ use Rattle.numerals.specs.Bytes.{in_text}
 use Rattle.numerals.proofs.KeyTurns.{met_all, met_same, met_other}
 use Rattle.numerals.proofs.bytes.meet.Goals as goal
 
-pub loop-i-init : goal.loop-i-init
-loop-i-init c = (refl, omega arith)
+pub loop-b-init : goal.loop-b-init
+loop-b-init c = refl
 
-pub returns-then-peek-b : goal.returns-then-peek-b
-returns-then-peek-b c =
-    sym (c.loop-i.invariant.0 ∙ met_other _ _ _ _ c.loop-i-test.true (λ z. c.if-peek-b.true (c.peek.ensures ∙ z ∙ sym c.wide-b.ensures)))
+pub returns-then-peek-from : goal.returns-then-peek-from
+returns-then-peek-from c =
+    sym (c.loop-b.invariant ∙ met_other _ _ _ _ c.loop-b-test.true (λ z. c.if-peek-from.true (c.peek.ensures ∙ z ∙ sym c.from.ensures)))
 
 pub overflow_add-p : goal.overflow_add-p
 overflow_add-p c =
     let a = c.args in
-    let b = c.shared_slice_known-in-loop-i-1.given c.loop-i.i in
-    omega (arith, in_text a.text.now c.loop-i.p (omega arith))
+    let b = c.type_inv.key c.loop-b.b-index in
+    omega (arith, in_text a.text.now c.loop-b.p (omega arith))
 
-pub loop-i-preserved : goal.loop-i-preserved
-loop-i-preserved c =
-    (c.loop-i.invariant.0 ∙ met_same _ _ _ _ c.loop-i-test.true (sym c.peek.ensures ∙ c.if-peek-b.false ∙ c.wide-b.ensures), omega arith)
+pub loop-b-preserved : goal.loop-b-preserved
+loop-b-preserved c =
+    c.loop-b.invariant ∙ met_same _ _ _ _ c.loop-b-test.true (sym c.peek.ensures ∙ c.if-peek-from.false ∙ c.from.ensures)
 
 pub returns : goal.returns
-returns c = sym (c.loop-i.invariant.0 ∙ met_all _ _ _ _ c.loop-i-test.false)
+returns c = sym (c.loop-b.invariant ∙ met_all _ _ _ _ c.loop-b-test.false)

@@ -4,7 +4,7 @@ use Rattle.numerals.specs.Bytes.{byte_in, byte-out}
 use Rattle.numerals.proofs.bytes.peek.Goals as goal
 
 pub returns-then-at-text : goal.returns-then-at-text
-returns-then-at-text c = c.wide.ensures ∙ sym (byte_in _ _ c.if-at-text.true)
+returns-then-at-text c = c.from.ensures ∙ sym (byte_in _ _ c.if-at-text.true)
 
 pub returns : goal.returns
 returns c = sym (byte-out _ _ c.if-at-text.false)

@@ -1,20 +1,20 @@
 -- `read_between`: the number as it was read, tested against both limits.
-use mathlib.Core.Path.{sym}
+use Rattle.std.proofs.lemmas.Result.{err_from_is_err_and}
 use Rattle.numerals.proofs.DigitTests.{between-refused, between-below, between-above, between-read}
 use Rattle.numerals.proofs.number.read_between.Goals as goal
+use Rattle.numerals.proofs.number.read_between.Goals.{then-read-low-via-then-read-low, then-read-low-via-else-read-low+then-high-read}
 
-pub returns-then-v-low : goal.returns-then-v-low
-returns-then-v-low c =
-    sym (between-below _ _ _ _ c.read_number.ensures _ _ c.in-Value.is c.if-v-low.true)
+pub returns-in_err-read : goal.returns-in_err-read
+returns-in_err-read c =
+    let p = err_from_is_err_and c.from_residual.result c.from_residual.ensures.1 in
+    rw (p.1, p.2) (between-refused _ _ _ _ _ c.in_err-read.ensures)
 
-pub returns-then-high-v : goal.returns-then-high-v
-returns-then-high-v c =
-    sym (between-above _ _ _ _ c.read_number.ensures _ _ c.in-Value.is c.if-v-low.false c.if-high-v.true)
+pub returns-then-read-low : goal.returns-then-read-low
+returns-then-read-low c =
+    elim c.then-read-low.branch [
+      | then-read-low-via-then-read-low w ↦ between-below _ _ _ _ c.in_ok-read.ensures w.if-read-low.true
+      | then-read-low-via-else-read-low+then-high-read w ↦ between-above _ _ _ _ c.in_ok-read.ensures w.if-read-low.false w.if-high-read.true
+    ]
 
-pub returns-else-high-v : goal.returns-else-high-v
-returns-else-high-v c =
-    sym (between-read _ _ _ _ c.read_number.ensures _ _ c.in-Value.is c.if-v-low.false c.if-high-v.false)
-
-pub returns-in-Unfit : goal.returns-in-Unfit
-returns-in-Unfit c =
-    sym (between-refused _ _ _ _ c.read_number.ensures _ c.in-Unfit.is)
+pub returns : goal.returns
+returns c = between-read _ _ _ _ c.in_ok-read.ensures c.if-read-low.false c.if-high-read.false

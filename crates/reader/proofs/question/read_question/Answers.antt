@@ -1,35 +1,25 @@
 -- `read_question`: the text was refused, a buffer is too small, or both parts are laid out.
-use native.Mathlib.Omega.{arith}
-use mathlib.Core.Path.{◌∙◌}
-use Rattle.reader.proofs.Buffers.{whole-refused, counts, table_too_long, held_too_long, all_laid}
+use Rattle.std.proofs.lemmas.Result.{err_from_is_err_and}
+use Rattle.reader.proofs.Buffers.{whole-refused, table_too_long, held_too_long, all_laid}
 use Rattle.reader.proofs.question.read_question.Goals as goal
 
-pub returns-then-arities-functors : goal.returns-then-arities-functors
-returns-then-arities-functors c =
-    table_too_long _ _ _ _ _ c.read_whole.ensures.exact c.read_whole.auto.table c.read_whole.auto.held c.read_whole.ensures.within _ _ _ _ c.in-Read.is c.if-arities-functors.true
+pub returns-in_err-counts : goal.returns-in_err-counts
+returns-in_err-counts c =
+    let p = err_from_is_err_and c.from_residual.result c.from_residual.ensures.1 in
+    rw (p.1, p.2) (whole-refused _ _ _ _ c.in_err-counts.ensures.exact)
 
-pub returns-then-words-n : goal.returns-then-words-n
-returns-then-words-n c =
-    held_too_long _ _ _ _ _ c.read_whole.ensures.exact c.read_whole.auto.table c.read_whole.auto.held c.read_whole.ensures.within _ _ _ _
-    c.in-Read.is c.if-arities-functors.false c.if-words-n.true
+pub returns-then-arities-counts : goal.returns-then-arities-counts
+returns-then-arities-counts c =
+    table_too_long _ _ _ _ _ _ c.in_ok-counts.ensures.exact c.read_whole.auto.table c.read_whole.auto.held c.in_ok-counts.ensures.within
+    c.if-arities-counts.true
 
-pub lay_arities-requires : goal.lay_arities-requires
-lay_arities-requires c =
-    let k = counts c.read_whole.ensures.within _ _ _ _ c.in-Read.is in
-    (omega (arith, k.0, c.read_whole.auto.table), c.if-arities-functors.false)
+pub returns-then-words-counts : goal.returns-then-words-counts
+returns-then-words-counts c =
+    held_too_long _ _ _ _ _ _ c.in_ok-counts.ensures.exact c.read_whole.auto.table c.read_whole.auto.held c.in_ok-counts.ensures.within
+    c.if-arities-counts.false c.if-words-counts.true
 
-pub lay_words-requires : goal.lay_words-requires
-lay_words-requires c =
-    let k = counts c.read_whole.ensures.within _ _ _ _ c.in-Read.is in
-    (omega (arith, k.1, c.read_whole.auto.held), c.if-words-n.false)
-
-pub returns-else-words-n : goal.returns-else-words-n
-returns-else-words-n c =
-    let o =
-    all_laid _ _ _ _ _ c.read_whole.ensures.exact c.read_whole.auto.table c.read_whole.auto.held c.read_whole.ensures.within _ _ _ _
-    c.in-Read.is c.if-arities-functors.false c.if-words-n.false in
-    record { told_back = o.told_back; arities_laid = c.lay_arities.ensures ∙ o.arities_laid; words_laid = c.lay_words.ensures ∙ o.words_laid }
-
-pub returns-in-Refused : goal.returns-in-Refused
-returns-in-Refused c =
-    whole-refused _ _ _ _ _ c.read_whole.ensures.exact c.read_whole.auto.table c.read_whole.auto.held _ c.in-Refused.is
+pub returns : goal.returns
+returns c =
+    rw (c.copy_from_slice.ensures.after, c.copy_from_slice-2.ensures.after)
+    (all_laid _ _ _ _ _ _ c.in_ok-counts.ensures.exact c.read_whole.auto.table c.read_whole.auto.held c.in_ok-counts.ensures.within
+    c.if-arities-counts.false c.if-words-counts.false)
