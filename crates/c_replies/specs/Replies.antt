@@ -1,13 +1,11 @@
 -- What a C caller is told: a status, and the later value of each out number. Where a call is granted its numbers are written in the order of the
 -- parameters and the place is left alone; a refusal writes the place and leaves the others alone.
-use Rattle.std.specs.Prelude.{ℕ, ◌≡◌, List, [], ◌∷◌}
+use Rattle.std.specs.Prelude.{ℕ, ◌≡◌, List, [], ◌∷◌, Err, Ok, Result}
 use Rattle.terms.specs.Refusal.{number}
 use Rattle.terms.specs.declared.refusal.Refusal.{Refusal}
 use Rattle.search.specs.Ends.{end_number}
 use Rattle.results.specs.declared.read.Question.{Question}
 use Rattle.results.specs.declared.read.Question.TheVariants as question
-use Rattle.results.specs.declared.written.Written.{Written}
-use Rattle.results.specs.declared.written.Written.TheVariants as written
 use Rattle.results.specs.declared.compared.Equality.{Equality}
 use Rattle.results.specs.declared.compared.Equality.TheVariants as equality
 use Rattle.results.specs.declared.compared.Solving.{Solving}
@@ -48,9 +46,9 @@ of_question (question.Read unknowns functors equations words) = granted (unknown
 of_question (question.Refused refusal) = refused refusal
 
 -- the text's length
-abbrev pub of_written : Written → Reply
-of_written (written.Length length) = granted (length ∷ [])
-of_written (written.Refused refusal) = refused refusal
+abbrev pub of_written : Result ℕ Refusal → Reply
+of_written (Ok length) = granted (length ∷ [])
+of_written (Err refusal) = refused refusal
 
 -- 1 where they are equal, 0 where they differ
 abbrev pub of_equality : Equality → Reply

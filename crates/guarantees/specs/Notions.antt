@@ -1,6 +1,6 @@
 -- The notions that proofs/Promised adds to the terms of the contracts: when a run is granted, what it is to read an answer in one way only, to write and to read a
 -- question, to compare ground terms and to try values.
-use Rattle.std.specs.Prelude.{ℕ, ◌+◌, ◌*◌, ◌≤◌, max, ◌≡◌, List, [], ◌∷◌, ◌++◌, length, take, drop}
+use Rattle.std.specs.Prelude.{ℕ, ◌+◌, ◌*◌, ◌≤◌, max, ◌≡◌, List, [], ◌∷◌, ◌++◌, length, take, drop, Ok}
 use Rattle.room.specs.Layout.{HEADER, SPARE_ROWS}
 use Rattle.terms.specs.Bounds.{edition_one, NESTING}
 use Rattle.terms.specs.Lists.{All, Any}
@@ -14,7 +14,6 @@ use Rattle.answers.specs.Fits.{States}
 use Rattle.text.specs.Text.{question_text}
 use Rattle.reader.specs.LentBuffers.{answer}
 use Rattle.results.specs.declared.read.Question.TheVariants.{Read}
-use Rattle.results.specs.declared.written.Written.TheVariants.{Length}
 use Rattle.guarantees.specs.Calls.{Posed, asked, Lending, loan_of, question_told, question_after, text_told, arities_after, words_after}
 
 -- ---- of runs
@@ -52,7 +51,7 @@ pub record Writable (q : Posed) (n : ℕ) (buffer : List ℕ) : Type 0 where
 
 -- write_question writes q as this text, from the buffer's start, and every later byte stays
 pub record Writes (q : Posed) (text buffer : List ℕ) : Type 0 where
-  pub back : question_told q buffer ≡ Length (length text)
+  pub back : question_told q buffer ≡ Ok (length text)
   pub after : question_after q buffer ≡ text ++ drop (length text) buffer
 
 -- read_question reads q in this text: its counts, and its arities and words from the buffers' starts, and all that comes later stays

@@ -16,7 +16,7 @@ use search::ends::End;
 use search::limits::{Lent, Limits};
 use search_loop::enter_root;
 use search_loop::row::write_root;
-use terms::refusal::{Cause, Checked, Refusal};
+use terms::refusal::{Cause, Refusal};
 
 // The run of a good question in a room that is large enough.
 fn start(
@@ -65,8 +65,8 @@ fn run_within(
     ensures { RunGives (told_within unknowns arities.now equations words.now (length answers.old) (length room.old) (lents.Within limits)) result answers.old answers.new room.old room.new }
 {
     match check_question(unknowns, arities, equations, words) {
-        Checked::Refused(refusal) => Ran::Refused(refusal),
-        Checked::Fine => {
+        Err(refusal) => Ran::Refused(refusal),
+        Ok(()) => {
             let needed = (limits.depth + SPARE_ROWS) * (limits.size + HEADER);
             if room.len() < needed {
                 return Ran::Refused(Refusal {

@@ -1,6 +1,7 @@
 -- What `equal` and `solves` answer, by the laws: the test of what the words hold agrees with the least equality, and every answer but a refusal says that the
 -- words hold what it speaks of.
-use Rattle.std.specs.Prelude.{ℕ, ◌≡◌, refl, Bool, true, false, List, [], ◌∷◌, ◌↔◌, length, drop}
+use Rattle.checks.specs.Check.{Checked}
+use Rattle.std.specs.Prelude.{ℕ, ◌≡◌, refl, Bool, true, false, List, [], ◌∷◌, ◌↔◌, length, drop, Err, Ok}
 use Rattle.std.proofs.Common.{sym, arith}
 use Rattle.std.proofs.lemmas.Bool.{false≢true}
 use Rattle.terms.specs.Bounds.{edition_one, edition_one_proper}
@@ -8,8 +9,6 @@ use Rattle.terms.specs.Term.{Term}
 use Rattle.terms.specs.Formed.{Equation}
 use Rattle.checks.specs.Lent.{Table, Asked, check_row_ground, ground_check_row, ground_back}
 use Rattle.terms.specs.Reading.{read, top, question_of}
-use Rattle.terms.specs.declared.refusal.Checked.{Checked}
-use Rattle.terms.specs.declared.refusal.Checked.TheVariants as checked
 use Rattle.laws.specs.Laws.{◌≈◌}
 use Rattle.laws.specs.Equal.{equal}
 use Rattle.laws.proofs.Agree.{agree}
@@ -36,16 +35,16 @@ abbrev compared : Bool → Equality
 compared true = equality.Equal
 compared false = equality.Differ
 
-compared_by : (c : Checked) (test b : Bool) → equality_after c test ≡ compared b → (c ≡ checked.Fine) × (test ≡ b)
+compared_by : (c : Checked) (test b : Bool) → equality_after c test ≡ compared b → (c ≡ Ok tt) × (test ≡ b)
 unfolding equality_after
-compared_by (checked.Refused r) test true e = impossible (cc)
-compared_by (checked.Refused r) test false e = impossible (cc)
-compared_by checked.Fine true true e = (refl, refl)
-compared_by checked.Fine true false e = impossible (cc)
-compared_by checked.Fine false true e = impossible (cc)
-compared_by checked.Fine false false e = (refl, refl)
+compared_by (Err r) test true e = impossible (cc)
+compared_by (Err r) test false e = impossible (cc)
+compared_by (Ok _) true true e = (refl, refl)
+compared_by (Ok _) true false e = impossible (cc)
+compared_by (Ok _) false true e = impossible (cc)
+compared_by (Ok _) false false e = (refl, refl)
 
-by_test : (b : Bool) → equality_after checked.Fine b ≡ compared b
+by_test : (b : Bool) → equality_after (Ok tt) b ≡ compared b
 unfolding equality_after
 by_test true = refl
 by_test false = refl
@@ -87,18 +86,18 @@ abbrev tried : Bool → Solving
 tried true = solving.Yes
 tried false = solving.No
 
-tried_by : (c d : Checked) (test b : Bool) → solving_after c d test ≡ tried b → (c ≡ checked.Fine) × (d ≡ checked.Fine) × (test ≡ b)
+tried_by : (c d : Checked) (test b : Bool) → solving_after c d test ≡ tried b → (c ≡ Ok tt) × (d ≡ Ok tt) × (test ≡ b)
 unfolding solving_after
-tried_by (checked.Refused r) d test true e = impossible (cc)
-tried_by (checked.Refused r) d test false e = impossible (cc)
-tried_by checked.Fine (checked.Refused r) test true e = impossible (cc)
-tried_by checked.Fine (checked.Refused r) test false e = impossible (cc)
-tried_by checked.Fine checked.Fine true true e = (refl, refl, refl)
-tried_by checked.Fine checked.Fine true false e = impossible (cc)
-tried_by checked.Fine checked.Fine false true e = impossible (cc)
-tried_by checked.Fine checked.Fine false false e = (refl, refl, refl)
+tried_by (Err r) d test true e = impossible (cc)
+tried_by (Err r) d test false e = impossible (cc)
+tried_by (Ok _) (Err r) test true e = impossible (cc)
+tried_by (Ok _) (Err r) test false e = impossible (cc)
+tried_by (Ok _) (Ok _) true true e = (refl, refl, refl)
+tried_by (Ok _) (Ok _) true false e = impossible (cc)
+tried_by (Ok _) (Ok _) false true e = impossible (cc)
+tried_by (Ok _) (Ok _) false false e = (refl, refl, refl)
 
-by_trial : (b : Bool) → solving_after checked.Fine checked.Fine b ≡ tried b
+by_trial : (b : Bool) → solving_after (Ok tt) (Ok tt) b ≡ tried b
 unfolding solving_after
 by_trial true = refl
 by_trial false = refl
