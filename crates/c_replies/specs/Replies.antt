@@ -5,8 +5,6 @@ use Rattle.terms.specs.Refusal.{number}
 use Rattle.terms.specs.declared.refusal.Refusal.{Refusal}
 use Rattle.search.specs.Ends.{end_number}
 use Rattle.results.specs.declared.read.Counts.{Counts}
-use Rattle.results.specs.declared.written.Written.{Written}
-use Rattle.results.specs.declared.written.Written.TheVariants as written
 use Rattle.results.specs.declared.ran.Ending.{Ending}
 
 pub data Reply : Type 0 where
@@ -42,9 +40,9 @@ of_question (Ok c) = granted (c.unknowns ∷ c.functors ∷ c.equations ∷ c.wo
 of_question (Err refusal) = refused refusal
 
 -- the text's length
-abbrev pub of_written : Written → Reply
-of_written (written.Length length) = granted (length ∷ [])
-of_written (written.Refused refusal) = refused refusal
+abbrev pub of_written : Result ℕ Refusal → Reply
+of_written (Ok length) = granted (length ∷ [])
+of_written (Err refusal) = refused refusal
 
 -- 1 where two terms are equal, or values solve a question, and 0 where they differ or don't
 abbrev pub of_verdict : Result Bool Refusal → Reply

@@ -11,7 +11,6 @@ ghost use Rattle.c_replies.specs.Replies.{Replied, of_question, of_written, of_r
 
 use results::ran::Ending;
 use results::read::Counts;
-use results::written::Written;
 use search::ends::number_of_end;
 use terms::refusal::{Refusal, number_of};
 
@@ -49,15 +48,15 @@ pub fn tell_question(
     }
 }
 
-pub fn tell_written(written: Written, length: &mut usize, place: &mut usize) -> u32
+pub fn tell_written(written: Result<usize, Refusal>, length: &mut usize, place: &mut usize) -> u32
     ensures { Replied (of_written written) result (length.old ∷ []) (length.new ∷ []) place.old place.new }
 {
     match written {
-        Written::Length(n) => {
+        Ok(n) => {
             *length = n;
             0
         }
-        Written::Refused(refusal) => tell_refusal(refusal, place),
+        Err(refusal) => tell_refusal(refusal, place),
     }
 }
 

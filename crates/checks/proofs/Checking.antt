@@ -1,4 +1,5 @@
 -- The check's walk in the code's terms: a place, and what is left of the words from there on. One law for each way a turn of a loop goes on or ends.
+use Rattle.std.specs.Prelude.{Err, Ok}
 use mathlib.Core.Path.{◌≡◌, ◌∙◌}
 use mathlib.Core.List.{List, ◌∷◌}
 use Prim.Native.Nat.{ℕ, zero, suc, ◌+◌, ◌-◌, ◌≤◌, ◌<◌}
@@ -8,13 +9,10 @@ use lib.ListN.{length, drop, get_or, drop_of_length-le, length-drop}
 use lib.Seq.{drop-cons}
 use borrow.Author.Tests.{lt-ltb, le-ltb, ne_eqb}
 use Rattle.terms.specs.Bounds.{Bounds}
-use Rattle.checks.specs.Check.{checked, follow, after, refused}
+use Rattle.checks.specs.Check.{checked, follow, after, refused, Follow}
 use Rattle.checks.specs.Short.{stopped, short}
 use Rattle.terms.specs.declared.refusal.Cause.{Cause}
 use Rattle.terms.specs.declared.refusal.Cause.TheVariants.{WordsStop, WordsUndeclared, WordsLeft}
-use Rattle.terms.specs.declared.refusal.Checked.TheVariants.{Fine}
-use Rattle.checks.specs.declared.check.Follow.{Follow}
-use Rattle.checks.specs.declared.check.Follow.TheVariants.{Terms, Cannot}
 
 module _ (b : Bounds) (arities : List ℕ) (n : ℕ) (ws : List ℕ) (p : ℕ) where
   -- ---- no words are left
@@ -27,7 +25,7 @@ module _ (b : Bounds) (arities : List ℕ) (n : ℕ) (ws : List ℕ) (p : ℕ) w
   unfolding checked
   checked-out a k t h z = rw (drop_of_length-le ws h, ne_eqb (a + k + t) 0 (λ e. omega arith))
 
-  pub checked-all : (a k t : ℕ) → length ws ≤ p → a ≡ 0 → k ≡ 0 → t ≡ 0 → checked b arities n (drop p ws) p a k t ≡ Fine
+  pub checked-all : (a k t : ℕ) → length ws ≤ p → a ≡ 0 → k ≡ 0 → t ≡ 0 → checked b arities n (drop p ws) p a k t ≡ Ok tt
   unfolding checked
   checked-all a k t h x y z = rw (drop_of_length-le ws h, x, y, z)
 
@@ -41,20 +39,20 @@ module _ (b : Bounds) (arities : List ℕ) (n : ℕ) (ws : List ℕ) (p : ℕ) w
     next = drop-cons ws p 0 h ∙ rw add-one
 
     module _ {f : Follow} (e : f ≡ follow b arities n (get_or ws p 0)) where
-      pub stopped_step : (m : ℕ) → f ≡ Terms m → stopped b arities n (drop p ws) p ≡ stopped b arities n (drop (p + 1) ws) (p + 1)
+      pub stopped_step : (m : ℕ) → f ≡ Ok m → stopped b arities n (drop p ws) p ≡ stopped b arities n (drop (p + 1) ws) (p + 1)
       unfolding stopped after
       stopped_step m k = rw (next, ← e, k)
 
-      pub stopped_at : (cause : Cause) → f ≡ Cannot cause → stopped b arities n (drop p ws) p ≡ refused cause p
+      pub stopped_at : (cause : Cause) → f ≡ Err cause → stopped b arities n (drop p ws) p ≡ refused cause p
       unfolding stopped after
       stopped_at cause k = rw (next, ← e, k)
 
-      pub term_step : (a k t m : ℕ) → 0 < t → f ≡ Terms m → checked b arities n (drop p ws) p a k t ≡ checked b arities n (drop (p + 1) ws) (p + 1) a k (t - 1 + m)
+      pub term_step : (a k t m : ℕ) → 0 < t → f ≡ Ok m → checked b arities n (drop p ws) p a k t ≡ checked b arities n (drop (p + 1) ws) (p + 1) a k (t - 1 + m)
       unfolding checked after
       term_step a k zero m z g = absurd (omega arith)
       term_step a k (suc t) m z g = rw (next, sub-one, ← e, g)
 
-      pub term_at : (a k t : ℕ) (cause : Cause) → 0 < t → f ≡ Cannot cause → checked b arities n (drop p ws) p a k t ≡ refused cause p
+      pub term_at : (a k t : ℕ) (cause : Cause) → 0 < t → f ≡ Err cause → checked b arities n (drop p ws) p a k t ≡ refused cause p
       unfolding checked after
       term_at a k zero cause z g = absurd (omega arith)
       term_at a k (suc t) cause z g = rw (next, ← e, g)

@@ -1,6 +1,6 @@
 -- The check of lent words, in its three forms: a question, a row of ground terms, a list of answers. SPECIFICATION 3.5.
 -- All three are one walk over the words with what is still due: answers, bindings of the answer at hand, and terms.
-use Rattle.std.specs.Prelude.{ℕ, zero, suc, ◌+◌, ◌*◌, List, [], ◌∷◌, Bool, true, false, cond, ◌||◌, eqb, ltb, length, get_or}
+use Rattle.std.specs.Prelude.{ℕ, zero, suc, ◌+◌, ◌*◌, List, [], ◌∷◌, Bool, true, false, cond, ◌||◌, eqb, ltb, length, get_or, Result, Ok, Err}
 use Rattle.terms.specs.Bounds.{Bounds}
 use Rattle.terms.specs.Kind.{kind}
 use Rattle.terms.specs.Lists.{any}
@@ -9,33 +9,37 @@ use Rattle.terms.specs.declared.kind.Kind.TheVariants.{Empty, Member, Unknown, F
 use Rattle.terms.specs.declared.refusal.Cause.{Cause}
 use Rattle.terms.specs.declared.refusal.Cause.TheVariants.{Limit, WordsStop, WordsMeaningless, WordsUndeclared, WordsLeft}
 use Rattle.terms.specs.declared.refusal.Refusal.{Refusal}
-use Rattle.terms.specs.declared.refusal.Checked.{Checked}
-use Rattle.terms.specs.declared.refusal.Checked.TheVariants.{Fine, Refused}
-use Rattle.checks.specs.declared.check.Follow.{Follow}
-use Rattle.checks.specs.declared.check.Follow.TheVariants.{Terms, Cannot}
+
+-- what a check answers: nothing is wrong, or the first fault
+abbrev pub Checked : Type 0
+Checked = Result (Unit {0}) Refusal
+
+-- how many terms follow a word where a term is due, or why it can't stand there
+abbrev pub Follow : Type 0
+Follow = Result ℕ Cause
 
 abbrev pub refused : Cause → ℕ → Checked
-refused cause place = Refused (record { cause = cause; place = place })
+refused cause place = Err (record { cause = cause; place = place })
 
 -- what follows a word of a kind, with n unknowns allowed
 unfoldable pub follows : List ℕ → ℕ → Kind → Follow
-follows arities n Empty = Terms 0
-follows arities n Member = Terms 2
-follows arities n (Unknown i) = cond (ltb i n) (Terms 0) (Cannot WordsUndeclared)
-follows arities n (Functor k) = cond (ltb k (length arities)) (Terms (get_or arities k 0)) (Cannot WordsUndeclared)
-follows arities n Nothing = Cannot WordsMeaningless
+follows arities n Empty = Ok 0
+follows arities n Member = Ok 2
+follows arities n (Unknown i) = cond (ltb i n) (Ok 0) (Err WordsUndeclared)
+follows arities n (Functor k) = cond (ltb k (length arities)) (Ok (get_or arities k 0)) (Err WordsUndeclared)
+follows arities n Nothing = Err WordsMeaningless
 
 unfoldable pub follow : Bounds → List ℕ → ℕ → ℕ → Follow
 follow b arities n w = follows arities n (kind b w)
 
 -- after a word of a term at a place: on with the terms that follow it, or the fault
 unfoldable pub after : Follow → ℕ → (ℕ → Checked) → Checked
-after (Terms m) place on = on m
-after (Cannot cause) place on = refused cause place
+after (Ok m) place on = on m
+after (Err cause) place on = refused cause place
 
 -- the words from a place on; an answer begins with its number of bindings, a binding with its unknown's number
 unfoldable pub checked : Bounds → List ℕ → ℕ → List ℕ → (place answers bindings terms : ℕ) → Checked
-checked b arities n [] place answers bindings terms = cond (eqb (answers + bindings + terms) 0) Fine (refused WordsStop place)
+checked b arities n [] place answers bindings terms = cond (eqb (answers + bindings + terms) 0) (Ok tt) (refused WordsStop place)
 checked b arities n (w ∷ ws) place answers bindings (suc terms) =
     after (follow b arities n w) place (λ m. checked b arities n ws (place + 1) answers bindings (terms + m))
 checked b arities n (w ∷ ws) place answers (suc bindings) zero =
@@ -72,5 +76,5 @@ check_answers b arities answers ws = above (arities_above b arities) 0 (checked 
 
 -- what a call over checked words answers: the refusal told, or what it finds
 unfoldable pub after_check : {A : Type 0} → Checked → (Refusal → A) → A → A
-after_check Fine tell found = found
-after_check (Refused r) tell found = tell r
+after_check (Ok _) tell found = found
+after_check (Err r) tell found = tell r

@@ -1,6 +1,6 @@
 -- What lent words hold: a question, a row of ground terms, a list of answers. For each, a check that is fine tells that the words are those of what is read
 -- from them, which keeps the limits of SPECIFICATION 3.2; and the words of anything within the limits are fine and read back to it.
-use Rattle.std.specs.Prelude.{ℕ, zero, suc, ◌*◌, ◌≤◌, ◌≡◌, Bool, true, false, ◌||◌, length}
+use Rattle.std.specs.Prelude.{ℕ, zero, suc, ◌*◌, ◌≤◌, ◌≡◌, Bool, true, false, ◌||◌, length, Ok}
 use Rattle.std.proofs.Math.Path.{refl, ap}
 use Rattle.std.proofs.Common.{sym, ◌∙◌, arith}
 use mathlib.Core.List.{List, [], ◌∷◌, ◌++◌, append-nil, head-eq_of_cons-eq, tail-eq_of_cons-eq}
@@ -8,7 +8,7 @@ use Rattle.std.proofs.Math.Dec.{ltb}
 use borrow.Author.Tests.{le-ltb, ltb-false}
 use Rattle.terms.specs.Answers.{Binding, binding_words, answer_words, listed}
 use Rattle.terms.specs.Bounds.{Bounds, Proper}
-use Rattle.checks.specs.Check.{checked, above, arities_above, counts_above, check_terms, check_question, check_row, check_answers}
+use Rattle.checks.specs.Check.{checked, above, arities_above, counts_above, check_terms, check_question, check_row, check_answers, Checked}
 use Rattle.checks.specs.Checked.{held, never_fine, fine_terms, fine_list}
 use Rattle.terms.specs.Kind.{Worded}
 use Rattle.terms.specs.Listing.{Bound, parts, list_words, answers_of, bindings_determine}
@@ -16,8 +16,6 @@ use Rattle.terms.specs.Lists.{All, none, both, any, or_neither}
 use Rattle.terms.specs.Term.{Term}
 use Rattle.terms.specs.Formed.{Formed, Equation, sides, Question, row, Good}
 use Rattle.terms.specs.Reading.{read, paired, question_of, row_read}
-use Rattle.terms.specs.declared.refusal.Checked.{Checked}
-use Rattle.terms.specs.declared.refusal.Checked.TheVariants.{Fine}
 
 -- ---- limits
 
@@ -25,12 +23,12 @@ pub record Table (b : Bounds) (arities : List ℕ) : Type 0 where
   pub functors : length arities ≤ b.functors
   pub arities_within : All (λ a. a ≤ b.arity) arities
 
-below : (c : Bool) (place : ℕ) (r : Checked) → above c place r ≡ Fine → (c ≡ false) × (r ≡ Fine)
+below : (c : Bool) (place : ℕ) (r : Checked) → above c place r ≡ Ok tt → (c ≡ false) × (r ≡ Ok tt)
 unfolding above
 below true place r e = never_fine e
 below false place r e = (refl, e)
 
-not-above : {c : Bool} (place : ℕ) {r : Checked} → c ≡ false → r ≡ Fine → above c place r ≡ Fine
+not-above : {c : Bool} (place : ℕ) {r : Checked} → c ≡ false → r ≡ Ok tt → above c place r ≡ Ok tt
 unfolding above
 not-above place e f = rw e f
 
@@ -78,7 +76,7 @@ alone b ts [] (x ∷ l) p q e = absurd (omega arith)
 alone b ts (x ∷ xs) l p q e = absurd (omega arith)
 
 module _ {b : Bounds} {arities : List ℕ} {n : ℕ} (worded : Worded b arities n) where
-  pub check_terms-row : (terms : ℕ) (ws : List ℕ) → check_terms b arities n terms ws ≡ Fine → Row b arities n terms ws (read b arities ws)
+  pub check_terms-row : (terms : ℕ) (ws : List ℕ) → check_terms b arities n terms ws ≡ Ok tt → Row b arities n terms ws (read b arities ws)
   unfolding check_terms
   check_terms-row terms ws e =
       let c = below (ltb b.symbols (length ws)) b.symbols (checked b arities n ws 0 0 0 terms) e in
@@ -88,7 +86,7 @@ module _ {b : Bounds} {arities : List ℕ} {n : ℕ} (worded : Worded b arities 
       let s : read b arities ws ≡ r.terms = ap (read b arities) (sym w) ∙ row_read worded h.formed_terms in
       rw s (record { count = h.terms; formed = h.formed_terms; worded = w; symbols = ltb-false b.symbols (length ws) c.0 })
 
-  pub row-check_terms : {terms : ℕ} {ws : List ℕ} {ts : List Term} → Row b arities n terms ws ts → check_terms b arities n terms ws ≡ Fine
+  pub row-check_terms : {terms : ℕ} {ws : List ℕ} {ts : List Term} → Row b arities n terms ws ts → check_terms b arities n terms ws ≡ Ok tt
   unfolding check_terms checked
   row-check_terms {terms} {ws} {ts} r =
       not-above b.symbols (le-ltb b.symbols (length ws) r.symbols)
@@ -120,7 +118,7 @@ pub record Asked (b : Bounds) (equations : ℕ) (ws : List ℕ) (q : Question) :
   pub worded : row b (sides q.equations) ≡ ws
 
 module _ {b : Bounds} (proper : Proper b) where
-  pub check_question-asked : (n : ℕ) (arities : List ℕ) (e : ℕ) (ws : List ℕ) → check_question b n arities e ws ≡ Fine → Asked b e ws (question_of b n arities ws)
+  pub check_question-asked : (n : ℕ) (arities : List ℕ) (e : ℕ) (ws : List ℕ) → check_question b n arities e ws ≡ Ok tt → Asked b e ws (question_of b n arities ws)
   unfolding check_question counts_above question_of
   check_question-asked n arities e ws f =
       let c = below (counts_above b n arities e) 0 (check_terms b arities n (2 * e) ws) f in
@@ -149,7 +147,7 @@ module _ {b : Bounds} (proper : Proper b) where
   question_table g = record { functors = g.functors; arities_within = g.arities }
 
   pub good_check_question : (q : Question) → Good b q
-      → check_question b q.unknowns q.arities (length q.equations) (row b (sides q.equations)) ≡ Fine
+      → check_question b q.unknowns q.arities (length q.equations) (row b (sides q.equations)) ≡ Ok tt
   unfolding check_question counts_above
   good_check_question q g =
       not-above 0
@@ -165,7 +163,7 @@ module _ {b : Bounds} (proper : Proper b) where
 
   -- ---- a row of ground terms
 
-  pub check_row_ground : (arities : List ℕ) (terms : ℕ) (ws : List ℕ) → check_row b arities terms ws ≡ Fine
+  pub check_row_ground : (arities : List ℕ) (terms : ℕ) (ws : List ℕ) → check_row b arities terms ws ≡ Ok tt
       → Table b arities × Row b arities 0 terms ws (read b arities ws)
   unfolding check_row
   check_row_ground arities terms ws f =
@@ -173,7 +171,7 @@ module _ {b : Bounds} (proper : Proper b) where
       let t = table b arities c.0 in
       (t, check_terms-row (table_worded proper t (omega arith)) terms ws c.1)
 
-  pub ground_check_row : {arities : List ℕ} {terms : ℕ} {ws : List ℕ} {ts : List Term} → Table b arities → Row b arities 0 terms ws ts → check_row b arities terms ws ≡ Fine
+  pub ground_check_row : {arities : List ℕ} {terms : ℕ} {ws : List ℕ} {ts : List Term} → Table b arities → Row b arities 0 terms ws ts → check_row b arities terms ws ≡ Ok tt
   unfolding check_row
   ground_check_row t r = not-above 0 (within_table t) (row-check_terms (table_worded proper t (omega arith)) r)
 
@@ -210,7 +208,7 @@ list_alone b [] (x ∷ xs) l p q e = absurd (omega arith)
 list_alone b (t ∷ ts) xs l p q e = absurd (omega arith)
 
 module _ {b : Bounds} (proper : Proper b) where
-  pub check_answers-answered : (arities : List ℕ) (answers : ℕ) (ws : List ℕ) → check_answers b arities answers ws ≡ Fine
+  pub check_answers-answered : (arities : List ℕ) (answers : ℕ) (ws : List ℕ) → check_answers b arities answers ws ≡ Ok tt
       → Table b arities × Answered b arities answers ws (answers_of b arities answers ws)
   unfolding check_answers answers_of
   check_answers-answered arities answers ws f =
@@ -222,7 +220,7 @@ module _ {b : Bounds} (proper : Proper b) where
       )
 
   module _ {arities : List ℕ} {answers : ℕ} {ws : List ℕ} {l : List (List Binding)} (t : Table b arities) (r : Answered b arities answers ws l) where
-    pub answered-check_answers : check_answers b arities answers ws ≡ Fine
+    pub answered-check_answers : check_answers b arities answers ws ≡ Ok tt
     unfolding check_answers
     answered-check_answers = not-above 0 (within_table t) (rw (← r.count, ← r.worded) (fine_list (table_worded proper t (omega arith)) r.formed 0))
 

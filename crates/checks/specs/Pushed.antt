@@ -1,23 +1,21 @@
 -- One word read: where a check lets a word stand, and its terms are on the stack, the stack with the word pushed is formed again and has its words.
 use Prim.Native.Nat.{ℕ, zero, suc, ◌+◌, ◌≤◌}
 use Rattle.std.proofs.Math.Path.{◌≡◌}
-use Rattle.std.specs.Prelude.{refl, List, [], ◌∷◌, ◌++◌, Bool, true, false, cond, ltb, length, drop}
+use Rattle.std.specs.Prelude.{refl, List, [], ◌∷◌, ◌++◌, Bool, true, false, cond, ltb, length, drop, Err, Ok}
 use Rattle.std.proofs.Common.{ap, ◌∙◌, append_assoc, arith, ltb-true}
 use Rattle.std.proofs.Math.ListN.{get_or, length-drop}
 use Rattle.terms.specs.Bounds.{Bounds, Proper, MEMBER}
 use Rattle.terms.specs.Kind.{kind, Means, means, means_empty, means_member, means_unknown, means_functor, means_nothing, takes, takes_empty, takes_member, takes_unknown}
 use Rattle.terms.proofs.KindLaws.{takes_functor}
 use Rattle.terms.specs.Lists.{All, none, both}
-use Rattle.terms.specs.Term.{Term, Terms, words, words*, count}
+use Rattle.terms.specs.Term.{Term, words, words*, count}
 use Rattle.terms.specs.Formed.{Formed, Formed*, formed_unknown, formed_empty, formed_with, formed_functor, formed_none, formed_more, row}
 use Rattle.terms.specs.Reading.{top, taken, push}
-use Rattle.checks.specs.Check.{follow, follows}
+use Rattle.checks.specs.Check.{follow, follows, Follow}
 use Rattle.terms.specs.declared.kind.Kind.{Kind}
 use Rattle.terms.specs.declared.kind.Kind.TheVariants.{Empty, Member, Unknown, Functor, Nothing}
 use Rattle.terms.specs.declared.refusal.Cause.{Cause}
 use Rattle.terms.specs.declared.refusal.Cause.TheVariants.{WordsUndeclared}
-use Rattle.checks.specs.declared.check.Follow.{Follow}
-use Rattle.checks.specs.declared.check.Follow.TheVariants as follow
 
 -- ---- the first m of a stack
 
@@ -63,12 +61,12 @@ pub record Pushed (b : Bounds) (arities : List ℕ) (n w m : ℕ) (ts us : List 
   pub worded : row b us ≡ w ∷ row b ts
 
 -- a word that stands under a condition: the condition holds
-stands_if : (c : Bool) (f : Follow) (cause : Cause) {m : ℕ} → cond c f (follow.Cannot cause) ≡ follow.Terms m → (c ≡ true) × (f ≡ follow.Terms m)
+stands_if : (c : Bool) (f : Follow) (cause : Cause) {m : ℕ} → cond c f (Err cause) ≡ Ok m → (c ≡ true) × (f ≡ Ok m)
 stands_if true f cause e = (refl, e)
 stands_if false f cause e = let z : ◌≡◌ {A = ℕ} 0 1 = cc in absurd (omega arith)
 
 module _ {b : Bounds} (proper : Proper b) (arities : List ℕ) (n w m : ℕ) (ts : List Term) (fs : All (Formed arities n) ts) (h : m ≤ length ts) where
-  by_kind : (k : Kind) → Means b w k → follows arities n k ≡ follow.Terms m → Pushed b arities n w m ts (push arities k ts)
+  by_kind : (k : Kind) → Means b w k → follows arities n k ≡ Ok m → Pushed b arities n w m ts (push arities k ts)
   unfolding follows push row words
   by_kind Empty (means_empty e) f =
       let z : 0 ≡ m = cc in
@@ -82,7 +80,7 @@ module _ {b : Bounds} (proper : Proper b) (arities : List ℕ) (n w m : ℕ) (ts
         worded = rw e (ap (λ ws. MEMBER ∷ ws) (words_two b ts (omega arith)));
       }
   by_kind (Unknown i) (means_unknown e j) f =
-      let s = stands_if (ltb i n) (follow.Terms 0) WordsUndeclared f in
+      let s = stands_if (ltb i n) (Ok 0) WordsUndeclared f in
       let z : 0 ≡ m = cc in
       record {
         follows = rw e (takes_unknown proper arities i j ∙ z);
@@ -91,7 +89,7 @@ module _ {b : Bounds} (proper : Proper b) (arities : List ℕ) (n w m : ℕ) (ts
         worded = rw e;
       }
   by_kind (Functor k) (means_functor e j) f =
-      let s = stands_if (ltb k (length arities)) (follow.Terms (get_or arities k 0)) WordsUndeclared f in
+      let s = stands_if (ltb k (length arities)) (Ok (get_or arities k 0)) WordsUndeclared f in
       let z : get_or arities k 0 ≡ m = cc in
       record {
         follows = rw e (takes_functor proper arities k j ∙ z);
@@ -101,6 +99,6 @@ module _ {b : Bounds} (proper : Proper b) (arities : List ℕ) (n w m : ℕ) (ts
       }
   by_kind Nothing means_nothing f = let z : ◌≡◌ {A = ℕ} 0 1 = cc in absurd (omega arith)
 
-  pub pushed : follow b arities n w ≡ follow.Terms m → Pushed b arities n w m ts (push arities (kind b w) ts)
+  pub pushed : follow b arities n w ≡ Ok m → Pushed b arities n w m ts (push arities (kind b w) ts)
   unfolding follow
   pushed f = by_kind (kind b w) (means b w) f

@@ -1,13 +1,10 @@
 -- Where more terms are due than words are left, the counter of terms no longer matters: the check tells the first word that cannot stand, or the end
 -- of the words.
-use Rattle.std.specs.Prelude.{ℕ, zero, suc, ◌+◌, ◌<◌, ◌≡◌, refl, List, [], ◌∷◌, length}
+use Rattle.std.specs.Prelude.{ℕ, zero, suc, ◌+◌, ◌<◌, ◌≡◌, refl, List, [], ◌∷◌, length, Err, Ok}
 use Rattle.std.proofs.Common.{arith, ne_eqb}
 use Rattle.terms.specs.Bounds.{Bounds}
-use Rattle.checks.specs.Check.{checked, follow, after, refused}
+use Rattle.checks.specs.Check.{checked, follow, after, refused, Checked, Follow}
 use Rattle.terms.specs.declared.refusal.Cause.TheVariants.{WordsStop}
-use Rattle.terms.specs.declared.refusal.Checked.{Checked}
-use Rattle.checks.specs.declared.check.Follow.{Follow}
-use Rattle.checks.specs.declared.check.Follow.TheVariants.{Terms, Cannot}
 
 unfoldable pub stopped : Bounds → List ℕ → ℕ → List ℕ → (place : ℕ) → Checked
 stopped b arities n [] place = refused WordsStop place
@@ -15,8 +12,8 @@ stopped b arities n (w ∷ ws) place = after (follow b arities n w) place (λ m.
 
 same_after : (f : Follow) (place : ℕ) (g h : ℕ → Checked) → ((m : ℕ) → g m ≡ h m) → after f place g ≡ after f place h
 unfolding after
-same_after (Terms m) place g h e = e m
-same_after (Cannot cause) place g h e = refl
+same_after (Ok m) place g h e = e m
+same_after (Err cause) place g h e = refl
 
 pub short : (b : Bounds) (arities : List ℕ) (n : ℕ) (ws : List ℕ) (place answers bindings terms : ℕ) → length ws < terms
     → checked b arities n ws place answers bindings terms ≡ stopped b arities n ws place

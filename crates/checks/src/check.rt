@@ -5,58 +5,45 @@ ghost use Rattle.checks.specs.Check.{follow, checked};
 ghost use Rattle.checks.specs.Short.{stopped};
 
 use terms::kind::{Kind, kind_of};
-use terms::refusal::{Cause, Checked, Refusal};
+use terms::refusal::{Cause, Refusal};
 
-// What follows a word where a term is due: so many terms; or why it can't stand there.
-#[derive(Clone, Copy)]
-pub enum Follow {
-    Terms(u8),
-    Cannot(Cause),
-}
-
-// With so many unknowns allowed.
-fn what_follows(arities: &[u8], unknowns: usize, word: u16) -> Follow
+// How many terms follow a word where a term is due, with so many unknowns allowed; or why it can't stand there.
+fn what_follows(arities: &[u8], unknowns: usize, word: u16) -> Result<u8, Cause>
     ensures { result ≡ follow edition_one arities.now unknowns word }
 {
     match kind_of(word) {
-        Kind::Empty => Follow::Terms(0),
-        Kind::Member => Follow::Terms(2),
+        Kind::Empty => Ok(0),
+        Kind::Member => Ok(2),
         Kind::Unknown(i) => {
             if (i as usize) < unknowns {
-                return Follow::Terms(0);
+                return Ok(0);
             }
-            Follow::Cannot(Cause::WordsUndeclared)
+            Err(Cause::WordsUndeclared)
         }
         Kind::Functor(k) => {
             let k = k as usize;
             if k < arities.len() {
-                return Follow::Terms(arities[k]);
+                return Ok(arities[k]);
             }
-            Follow::Cannot(Cause::WordsUndeclared)
+            Err(Cause::WordsUndeclared)
         }
-        Kind::Nothing => Follow::Cannot(Cause::WordsMeaningless),
+        Kind::Nothing => Err(Cause::WordsMeaningless),
     }
 }
 
 // More terms are due than words are left from this place on: the first word that can't stand, or the words stop. No counter can overflow.
-fn check_short(arities: &[u8], unknowns: usize, words: &[u16], from: usize) -> Checked
+fn check_short(arities: &[u8], unknowns: usize, words: &[u16], from: usize) -> Result<(), Refusal>
     requires { from ≤ length words.now }
     ensures { result ≡ stopped edition_one arities.now unknowns (drop from words.now) from }
 {
-    let mut place = from;
-    while place < words.len() {
-        match what_follows(arities, unknowns, words[place]) {
-            Follow::Terms(_) => {
-                place += 1;
-            }
-            Follow::Cannot(cause) => {
-                return Checked::Refused(Refusal { cause, place });
-            }
+    for place in from..words.len() {
+        if let Err(cause) = what_follows(arities, unknowns, words[place]) {
+            return Err(Refusal { cause, place });
         }
     }
-    Checked::Refused(Refusal {
+    Err(Refusal {
         cause: Cause::WordsStop,
-        place,
+        place: words.len(),
     })
 }
 
@@ -67,66 +54,45 @@ pub fn check_words(
     words: &[u16],
     answers: usize,
     terms: usize,
-) -> Checked
+) -> Result<(), Refusal>
     ensures { result ≡ checked edition_one arities.now unknowns words.now 0 answers 0 terms }
 {
-    let mut place: usize = 0;
     let mut answers_due = answers;
     let mut bindings_due: usize = 0;
     let mut terms_due = terms;
-    while place < words.len() {
-        let word = words[place];
+    for (place, word) in words.iter().enumerate() {
         if 0 < terms_due {
             if words.len() - place < terms_due {
                 return check_short(arities, unknowns, words, place);
             }
-            match what_follows(arities, unknowns, word) {
-                Follow::Terms(more) => {
-                    terms_due = terms_due - 1 + more as usize;
-                    place += 1;
-                }
-                Follow::Cannot(cause) => {
-                    return Checked::Refused(Refusal { cause, place });
-                }
+            match what_follows(arities, unknowns, *word) {
+                Ok(more) => terms_due = terms_due - 1 + usize::from(more),
+                Err(cause) => return Err(Refusal { cause, place }),
             }
         } else if 0 < bindings_due {
-            if unknowns <= word as usize {
-                return Checked::Refused(Refusal {
+            if unknowns <= usize::from(*word) {
+                return Err(Refusal {
                     cause: Cause::WordsUndeclared,
                     place,
                 });
             }
             bindings_due -= 1;
             terms_due = 1;
-            place += 1;
         } else if 0 < answers_due {
             answers_due -= 1;
-            bindings_due = word as usize;
-            place += 1;
+            bindings_due = usize::from(*word);
         } else {
-            return Checked::Refused(Refusal {
+            return Err(Refusal {
                 cause: Cause::WordsLeft,
                 place,
             });
         }
     }
-    if 0 < terms_due {
-        return Checked::Refused(Refusal {
+    if 0 < terms_due || 0 < bindings_due || 0 < answers_due {
+        return Err(Refusal {
             cause: Cause::WordsStop,
-            place,
+            place: words.len(),
         });
     }
-    if 0 < bindings_due {
-        return Checked::Refused(Refusal {
-            cause: Cause::WordsStop,
-            place,
-        });
-    }
-    if 0 < answers_due {
-        return Checked::Refused(Refusal {
-            cause: Cause::WordsStop,
-            place,
-        });
-    }
-    Checked::Fine
+    Ok(())
 }

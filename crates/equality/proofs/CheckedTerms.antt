@@ -1,5 +1,6 @@
 -- From a check that is fine to what the comparison starts from, and from what it tells to the answer: for a row of two ground terms, and for a question
 -- with a row of values.
+use Rattle.std.specs.Prelude.{Ok}
 use Prim.Native.Nat.{ℕ, ◌+◌, ◌*◌, ◌≤◌}
 use mathlib.Core.Path.{◌≡◌, ap, ap₂, sym, ◌∙◌}
 use mathlib.Core.List.{List, [], ◌++◌}
@@ -15,7 +16,6 @@ use Rattle.terms.specs.Formed.{Equation, sides}
 use Rattle.checks.specs.Lent.{Row, Asked, table_worded, good_worded, check_row_ground, check_question-asked, length_sides}
 use Rattle.checks.specs.Pushed.{formed_top, formed_drop}
 use Rattle.terms.specs.Reading.{read, top, question_of}
-use Rattle.terms.specs.declared.refusal.Checked.TheVariants.{Fine}
 use Rattle.laws.specs.Equal.{equal}
 use Rattle.laws.specs.Values.{in_order, solves_test}
 use Rattle.term_places.specs.Places.{terms_from, held, values, Placed, PLACES}
@@ -25,7 +25,7 @@ use Rattle.holding.proofs.Asking.{from_first, from-values, holding_solves}
 
 -- ---- two ground terms
 
-module _ (arities row : List ℕ) (fine : check_row edition_one arities 2 row ≡ Fine) where
+module _ (arities row : List ℕ) (fine : check_row edition_one arities 2 row ≡ Ok tt) where
   two : Row edition_one arities 0 2 row (read edition_one arities row)
   two = (check_row_ground edition_one_proper arities 2 row fine).1
 
@@ -72,7 +72,7 @@ laid room words row h e f =
 pub as_long : (k : ℕ) (l m : List ℕ) → k ≤ length l → k ≤ length m → length (take k l) ≡ length (take k m)
 as_long k l m i j = length-take-le k l i ∙ sym (length-take-le k m j)
 
-module _ (n : ℕ) (arities : List ℕ) (e : ℕ) (words row : List ℕ) (fine : check_question edition_one n arities e words ≡ Fine) (fine_row : check_row edition_one arities n row ≡ Fine) where
+module _ (n : ℕ) (arities : List ℕ) (e : ℕ) (words row : List ℕ) (fine : check_question edition_one n arities e words ≡ Ok tt) (fine_row : check_row edition_one arities n row ≡ Ok tt) where
   asked : Asked edition_one e words (question_of edition_one n arities words)
   asked = check_question-asked edition_one_proper n arities e words fine
 

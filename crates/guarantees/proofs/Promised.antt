@@ -5,7 +5,7 @@
 -- has questions and when they are good, laws/specs/Laws when terms are equal, laws/specs/Values when values solve, answers/specs/Fits what it is to meet and to fit
 -- an answer, search/specs/Run the published search, promises/specs/Wording when a loan is no less than another, terms/specs/Refusal and search/specs/Ends the
 -- numbers of refusals and ends.
-use Rattle.std.specs.Prelude.{ℕ, suc, ◌≤◌, ◌<◌, ◌≡◌, List, [], ◌∷◌, ◌++◌, map, ◌↔◌, ◌⊎◌, length, take, drop, true, false, Ok, Err}
+use Rattle.std.specs.Prelude.{ℕ, suc, ◌≤◌, ◌<◌, ◌≡◌, List, [], ◌∷◌, ◌++◌, map, ◌↔◌, ◌⊎◌, length, take, drop, true, false, Ok, Err, Some}
 use Rattle.std.proofs.Common.{Ok, Err}
 use Rattle.terms.specs.Bounds.{edition_one, NESTING, BYTES}
 use Rattle.terms.specs.Lists.{All, Any}
@@ -19,7 +19,6 @@ use Rattle.terms.specs.declared.refusal.Refusal.{Refusal}
 use Rattle.laws.specs.Laws.{◌≈◌}
 use Rattle.laws.specs.Values.{Values, GroundValues, Solves}
 use Rattle.search.specs.declared.ends.End.{End}
-use Rattle.search.specs.declared.ends.Listed.TheVariants.{As}
 use Rattle.search.specs.Ends.{end_number, end_of}
 use Rattle.search.specs.Run.{Loan, Outcome, ran}
 use Rattle.answers.specs.Fits.{Meets, Fits}
@@ -29,7 +28,6 @@ use Rattle.text.specs.Sizes.{question-length}
 use Rattle.reader.specs.LentBuffers.{answer}
 use Rattle.word_writer.specs.Depths.{all_within}
 use Rattle.writer.specs.Written.{too_deep_in, too_deep_in_list}
-use Rattle.results.specs.declared.written.Written.TheVariants as writing
 use Rattle.equality.specs.Answering.{equal_answer}
 use Rattle.results.specs.Loans.{ending}
 use Rattle.results.specs.Result.{gives, refuses, result}
@@ -118,19 +116,19 @@ module _ (q : Posed) (l : Lending) (o : Outcome) (gave : run_told q l ≡ gives 
   -- ---- 5. what a run lists, write_answers takes
 
   -- refused for nesting or for the buffer's length, if at all
-  pub list-taken : (buffer : List ℕ) (r : Refusal) → list_told q.arities (end_number o.end) o.visited (length o.answers) (listed o.answers) buffer ≡ writing.Refused r
+  pub list-taken : (buffer : List ℕ) (r : Refusal) → list_told q.arities (end_number o.end) o.visited (length o.answers) (listed o.answers) buffer ≡ Err r
       → (number r.cause ≡ 6) ⊎ (number r.cause ≡ 7)
   list-taken = listing.list-taken q l o gave
 
 -- ---- 6. reading and writing
 
 -- written exactly if the words ask a good question of nesting at most 200 and the buffer holds its text
-pub written_exactly : (q : Posed) (n : ℕ) (buffer : List ℕ) → (question_told q buffer ≡ writing.Length n) ↔ Writable q n buffer
+pub written_exactly : (q : Posed) (n : ℕ) (buffer : List ℕ) → (question_told q buffer ≡ Ok n) ↔ Writable q n buffer
 written_exactly = texts.written_exactly
 
 -- refused with 6 exactly if they ask a good question that nests deeper
 pub too_deep_exactly : (q : Posed) (buffer : List ℕ)
-    → ((r : Refusal) × (question_told q buffer ≡ writing.Refused r) × (number r.cause ≡ 6)) ↔ (Asked edition_one q.equations q.words (asked q) × (NestsWithin NESTING (asked q) → ⊥))
+    → ((r : Refusal) × (question_told q buffer ≡ Err r) × (number r.cause ≡ 6)) ↔ (Asked edition_one q.equations q.words (asked q) × (NestsWithin NESTING (asked q) → ⊥))
 too_deep_exactly = texts.too_deep_exactly
 
 -- so every good question of nesting at most 200 is written where its text fits, and 32,768 bytes hold it
@@ -141,7 +139,7 @@ pub text_fits : (g : Question) → Good edition_one g → length (question_text 
 text_fits = question-length
 
 -- what write_question wrote, read_question reads back as the same question, into buffers that hold it
-pub written-then-read : (q : Posed) (n : ℕ) (buffer : List ℕ) → question_told q buffer ≡ writing.Length n → (arities words : List ℕ)
+pub written-then-read : (q : Posed) (n : ℕ) (buffer : List ℕ) → question_told q buffer ≡ Ok n → (arities words : List ℕ)
     → length q.arities ≤ length arities → length q.words ≤ length words
     → Reads (take n (question_after q buffer)) q arities words
 written-then-read = texts.written-then-read
@@ -187,10 +185,10 @@ pub text_refused : (text arities words : List ℕ) (r : Refusal) → answer (tex
     → (arities_after text arities words ≡ arities) × (words_after text arities words ≡ words)
 text_refused = refusing.text_refused
 
-pub question-refused : (q : Posed) (buffer : List ℕ) (r : Refusal) → question_told q buffer ≡ writing.Refused r → question_after q buffer ≡ buffer
+pub question-refused : (q : Posed) (buffer : List ℕ) (r : Refusal) → question_told q buffer ≡ Err r → question_after q buffer ≡ buffer
 question-refused = refusing.question-refused
 
-pub list-refused : (arities : List ℕ) (end visited answers : ℕ) (words buffer : List ℕ) (r : Refusal) → list_told arities end visited answers words buffer ≡ writing.Refused r
+pub list-refused : (arities : List ℕ) (end visited answers : ℕ) (words buffer : List ℕ) (r : Refusal) → list_told arities end visited answers words buffer ≡ Err r
     → list_after arities end visited answers words buffer ≡ buffer
 list-refused = refusing.list-refused
 
@@ -204,17 +202,17 @@ run_refused = refusing.run_refused
 pub end-numbers : (q : Posed) (l : Lending) (o : Outcome) → run_told q l ≡ gives o → OneOf (0 ∷ 20 ∷ 21 ∷ 22 ∷ 23 ∷ []) (end_number o.end)
 end-numbers = numbers.end-numbers
 
-pub end_by_number : (e : End) → end_of (end_number e) ≡ As e
+pub end_by_number : (e : End) → end_of (end_number e) ≡ Some e
 end_by_number = listing.end_by_number
 
 -- the refusals that there may be, entry by entry
 pub text_numbers : (text arities words : List ℕ) (r : Refusal) → answer (text_told text arities words) ≡ Err r → OneOf (1 ∷ 2 ∷ 3 ∷ 4 ∷ 5 ∷ 6 ∷ 7 ∷ []) (number r.cause)
 text_numbers = numbers.text_numbers
 
-pub question-numbers : (q : Posed) (buffer : List ℕ) (r : Refusal) → question_told q buffer ≡ writing.Refused r → OneOf (3 ∷ 8 ∷ 6 ∷ 7 ∷ []) (number r.cause)
+pub question-numbers : (q : Posed) (buffer : List ℕ) (r : Refusal) → question_told q buffer ≡ Err r → OneOf (3 ∷ 8 ∷ 6 ∷ 7 ∷ []) (number r.cause)
 question-numbers = numbers.question-numbers
 
-pub list-numbers : (arities : List ℕ) (end visited answers : ℕ) (words buffer : List ℕ) (r : Refusal) → list_told arities end visited answers words buffer ≡ writing.Refused r
+pub list-numbers : (arities : List ℕ) (end visited answers : ℕ) (words buffer : List ℕ) (r : Refusal) → list_told arities end visited answers words buffer ≡ Err r
     → OneOf (3 ∷ 8 ∷ 6 ∷ 7 ∷ []) (number r.cause)
 list-numbers = numbers.list-numbers
 

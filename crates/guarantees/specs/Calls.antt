@@ -1,6 +1,7 @@
 -- What is lent to a call, and what the contracts in crates/mensorique/src/lib.rt say of it, in their very terms: `told`, `words_told`, `question_written`,
 -- `held` and so on, for each entry what it gives back and what its buffers hold afterwards. `equal` needs no name: its contract is `equal_answer` alone.
 use Rattle.std.specs.Prelude.{ℕ, List, Bool, Result, length}
+use Rattle.terms.specs.declared.refusal.Refusal.{Refusal}
 use Rattle.room.specs.Room.{put}
 use Rattle.terms.specs.Bounds.{edition_one}
 use Rattle.terms.specs.Formed.{Question, sides, row}
@@ -15,7 +16,6 @@ use Rattle.numerals.specs.TextReading.{Reading}
 use Rattle.reader.specs.LentBuffers.{question_into, laid, arities_of, words_of}
 use Rattle.question_reader.specs.Questions as reader
 use Rattle.writer.specs.Written.{held, question_written, list_written, text_of_list}
-use Rattle.results.specs.declared.written.Written.{Written}
 use Rattle.equality.specs.Answering.{solves_answer}
 use Rattle.results.specs.Result.{Told, told, words_told}
 
@@ -64,14 +64,14 @@ abbrev pub used : Outcome → ℕ
 used o = length (listed o.answers)
 
 -- write_question, into a buffer: what it gives back, and the buffer afterwards
-abbrev pub question_told : Posed → List ℕ → Written
+abbrev pub question_told : Posed → List ℕ → Result ℕ Refusal
 question_told q buffer = question_written edition_one q.unknowns q.arities q.equations q.words (length buffer)
 
 abbrev pub question_after : Posed → List ℕ → List ℕ
 question_after q buffer = held (question_told q buffer) (question_text (asked q)) buffer
 
 -- write_answers, likewise
-abbrev pub list_told : (arities : List ℕ) (end visited answers : ℕ) (words buffer : List ℕ) → Written
+abbrev pub list_told : (arities : List ℕ) (end visited answers : ℕ) (words buffer : List ℕ) → Result ℕ Refusal
 list_told arities end visited answers words buffer = list_written edition_one arities end visited answers words (length buffer)
 
 abbrev pub list_after : (arities : List ℕ) (end visited answers : ℕ) (words buffer : List ℕ) → List ℕ

@@ -13,7 +13,6 @@ use Rattle.search.specs.RunLimits.{most_steps, most_depth, most_size}
 use Rattle.answers.specs.Fits.{States}
 use Rattle.text.specs.Text.{question_text}
 use Rattle.reader.specs.LentBuffers.{answer}
-use Rattle.results.specs.declared.written.Written.TheVariants.{Length}
 use Rattle.guarantees.specs.Calls.{Posed, asked, Lending, loan_of, question_told, question_after, text_told, arities_after, words_after}
 
 -- ---- of runs
@@ -51,7 +50,7 @@ pub record Writable (q : Posed) (n : ℕ) (buffer : List ℕ) : Type 0 where
 
 -- write_question writes q as this text, from the buffer's start, and every later byte stays
 pub record Writes (q : Posed) (text buffer : List ℕ) : Type 0 where
-  pub back : question_told q buffer ≡ Length (length text)
+  pub back : question_told q buffer ≡ Ok (length text)
   pub after : question_after q buffer ≡ text ++ drop (length text) buffer
 
 -- read_question reads q in this text: its counts, and its arities and words from the buffers' starts, and all that comes later stays

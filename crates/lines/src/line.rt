@@ -6,7 +6,7 @@ ghost use Rattle.word_writer.specs.Pen.{Wrote};
 ghost use Rattle.word_writer.specs.WordByWord.{Passed};
 
 use term_writer::term::write_term;
-use word_writer::put::{Passage, put_byte, put_bytes, put_number};
+use word_writer::put::{Passage, TooDeep, put_byte, put_bytes, put_number};
 
 pub fn put_number_line(text: &mut [u8], at: usize, key: &[u8], number: u64) -> usize
     ensures { Wrote text.old at (line key.now (decimal number)) text.new result }
@@ -24,12 +24,13 @@ pub fn write_term_line(
     key: &[u8],
     text: &mut [u8],
     at: usize,
-) -> Passage
+) -> Result<Passage, TooDeep>
     ensures { Passed text.old at (term_line edition_one arities.now words.now key.now from) result text.new }
 {
     let value = put_bytes(text, at, key);
-    match write_term(arities, words, from, text, value) {
-        Passage::To(p, end) => Passage::To(p, put_byte(text, end, b'\n')),
-        Passage::TooDeep(p) => Passage::TooDeep(p),
-    }
+    let term = write_term(arities, words, from, text, value)?;
+    Ok(Passage {
+        word: term.word,
+        at: put_byte(text, term.at, b'\n'),
+    })
 }

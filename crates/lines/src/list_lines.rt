@@ -1,5 +1,4 @@
 // The lines of an answer list.
-ghost use Rattle.std.specs.Prelude.{◌≡◌};
 ghost use Rattle.search.specs.Ends.{end_word};
 ghost use Rattle.terms.specs.Bounds.{edition_one};
 ghost use Rattle.text.specs.Keys.{end_key};
@@ -11,29 +10,23 @@ ghost use Rattle.word_writer.specs.WordByWord.{Passed};
 
 use crate::line::{put_number_line, write_term_line};
 use search::ends::End;
-use word_writer::put::{Passage, put_byte, put_bytes};
-
-fn wide(word: u16) -> u64
-    ensures { result ≡ word }
-{
-    word as u64
-}
-
-fn count(word: u16) -> usize
-    ensures { result ≡ word }
-{
-    word as usize
-}
+use word_writer::put::{Passage, TooDeep, put_byte, put_bytes};
 
 // The binding that begins at the word `from`.
-fn write_binding(arities: &[u8], words: &[u16], from: usize, text: &mut [u8], at: usize) -> Passage
+fn write_binding(
+    arities: &[u8],
+    words: &[u16],
+    from: usize,
+    text: &mut [u8],
+    at: usize,
+) -> Result<Passage, TooDeep>
     ensures { Passed text.old at (binding_at edition_one arities.now words.now from) result text.new }
 {
     if from < words.len() {
-        let next = put_number_line(text, at, &text::UNKNOWN, wide(words[from]));
+        let next = put_number_line(text, at, &text::UNKNOWN, u64::from(words[from]));
         return write_term_line(arities, words, from + 1, &text::VALUE, text, next);
     }
-    Passage::To(from, at)
+    Ok(Passage { word: from, at })
 }
 
 // So many bindings from the word `from` on.
@@ -44,37 +37,32 @@ fn write_bindings(
     from: usize,
     text: &mut [u8],
     at: usize,
-) -> Passage
+) -> Result<Passage, TooDeep>
     ensures { Passed text.old at (repeat (binding_at edition_one arities.now words.now) bindings from) result text.new }
 {
-    let mut due = bindings;
-    let mut place = from;
-    let mut next = at;
-    while 0 < due {
-        match write_binding(arities, words, place, text, next) {
-            Passage::To(p, end) => {
-                due -= 1;
-                place = p;
-                next = end;
-            }
-            Passage::TooDeep(p) => {
-                return Passage::TooDeep(p);
-            }
-        }
+    let mut passage = Passage { word: from, at };
+    for _ in 0..bindings {
+        passage = write_binding(arities, words, passage.word, text, passage.at)?;
     }
-    Passage::To(place, next)
+    Ok(passage)
 }
 
 // The answer that begins at the word `from`.
-fn write_answer(arities: &[u8], words: &[u16], from: usize, text: &mut [u8], at: usize) -> Passage
+fn write_answer(
+    arities: &[u8],
+    words: &[u16],
+    from: usize,
+    text: &mut [u8],
+    at: usize,
+) -> Result<Passage, TooDeep>
     ensures { Passed text.old at (answer_at edition_one arities.now words.now from) result text.new }
 {
     if from < words.len() {
         let bindings = words[from];
-        let next = put_number_line(text, at, &text::BINDINGS, wide(bindings));
-        return write_bindings(arities, words, count(bindings), from + 1, text, next);
+        let next = put_number_line(text, at, &text::BINDINGS, u64::from(bindings));
+        return write_bindings(arities, words, usize::from(bindings), from + 1, text, next);
     }
-    Passage::To(from, at)
+    Ok(Passage { word: from, at })
 }
 
 fn write_answers_due(
@@ -83,25 +71,14 @@ fn write_answers_due(
     answers: usize,
     text: &mut [u8],
     at: usize,
-) -> Passage
+) -> Result<Passage, TooDeep>
     ensures { Passed text.old at (repeat (answer_at edition_one arities.now words.now) answers 0) result text.new }
 {
-    let mut due = answers;
-    let mut place = 0;
-    let mut next = at;
-    while 0 < due {
-        match write_answer(arities, words, place, text, next) {
-            Passage::To(p, end) => {
-                due -= 1;
-                place = p;
-                next = end;
-            }
-            Passage::TooDeep(p) => {
-                return Passage::TooDeep(p);
-            }
-        }
+    let mut passage = Passage { word: 0, at };
+    for _ in 0..answers {
+        passage = write_answer(arities, words, passage.word, text, passage.at)?;
     }
-    Passage::To(place, next)
+    Ok(passage)
 }
 
 // The end's word.
@@ -142,7 +119,7 @@ pub fn write_list(
     answers: usize,
     words: &[u16],
     text: &mut [u8],
-) -> Passage
+) -> Result<Passage, TooDeep>
     ensures { Passed text.old 0 (list_lines edition_one (end_word end) arities.now visited answers words.now) result text.new }
 {
     let first = put_list_header(end, visited, answers, text, 0);

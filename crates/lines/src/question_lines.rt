@@ -1,5 +1,4 @@
 // The lines of a question.
-ghost use Rattle.std.specs.Prelude.{◌≡◌, drop};
 ghost use Rattle.terms.specs.Bounds.{edition_one};
 ghost use Rattle.text.specs.Keys.{arities_key};
 ghost use Rattle.text.specs.Text.{numbers, further_numbers, line};
@@ -8,24 +7,16 @@ ghost use Rattle.word_writer.specs.Pen.{Wrote};
 ghost use Rattle.word_writer.specs.WordByWord.{Passed};
 
 use crate::line::{put_number_line, write_term_line};
-use word_writer::put::{Passage, put_byte, put_bytes, put_number};
+use word_writer::put::{Passage, TooDeep, put_byte, put_bytes, put_number};
 
-fn wide(number: u8) -> u64
-    ensures { result ≡ number }
-{
-    number as u64
-}
-
-// The arities after the first, each after a comma.
+// The further arities, each after a comma.
 fn put_further(text: &mut [u8], at: usize, arities: &[u8]) -> usize
-    ensures { Wrote text.old at (further_numbers (drop 1 arities.now)) text.new result }
+    ensures { Wrote text.old at (further_numbers arities.now) text.new result }
 {
     let mut next = at;
-    let mut i = 1;
-    while i < arities.len() {
+    for arity in arities {
         let value = put_byte(text, next, b',');
-        next = put_number(text, value, wide(arities[i]));
-        i += 1;
+        next = put_number(text, value, u64::from(*arity));
     }
     next
 }
@@ -34,11 +25,11 @@ fn put_further(text: &mut [u8], at: usize, arities: &[u8]) -> usize
 fn put_numbers(text: &mut [u8], at: usize, arities: &[u8]) -> usize
     ensures { Wrote text.old at (numbers arities.now) text.new result }
 {
-    if arities.len() == 0 {
-        return at;
+    if let Some((first, further)) = arities.split_first() {
+        let next = put_number(text, at, u64::from(*first));
+        return put_further(text, next, further);
     }
-    let next = put_number(text, at, wide(arities[0]));
-    put_further(text, next, arities)
+    at
 }
 
 fn put_arities(text: &mut [u8], at: usize, arities: &[u8]) -> usize
@@ -64,15 +55,18 @@ fn put_header(
     put_number_line(text, fourth, &text::EQUATIONS, equations as u64)
 }
 
-fn write_equation(arities: &[u8], words: &[u16], from: usize, text: &mut [u8], at: usize) -> Passage
+// The equation whose left side begins at the word `from`.
+fn write_equation(
+    arities: &[u8],
+    words: &[u16],
+    from: usize,
+    text: &mut [u8],
+    at: usize,
+) -> Result<Passage, TooDeep>
     ensures { Passed text.old at (equation_at edition_one arities.now words.now from) result text.new }
 {
-    match write_term_line(arities, words, from, &text::LEFT, text, at) {
-        Passage::To(right, next) => {
-            write_term_line(arities, words, right, &text::RIGHT, text, next)
-        }
-        Passage::TooDeep(p) => Passage::TooDeep(p),
-    }
+    let left = write_term_line(arities, words, from, &text::LEFT, text, at)?;
+    write_term_line(arities, words, left.word, &text::RIGHT, text, left.at)
 }
 
 fn write_equations(
@@ -81,25 +75,14 @@ fn write_equations(
     equations: usize,
     text: &mut [u8],
     at: usize,
-) -> Passage
+) -> Result<Passage, TooDeep>
     ensures { Passed text.old at (repeat (equation_at edition_one arities.now words.now) equations 0) result text.new }
 {
-    let mut due = equations;
-    let mut from = 0;
-    let mut next = at;
-    while 0 < due {
-        match write_equation(arities, words, from, text, next) {
-            Passage::To(p, end) => {
-                due -= 1;
-                from = p;
-                next = end;
-            }
-            Passage::TooDeep(p) => {
-                return Passage::TooDeep(p);
-            }
-        }
+    let mut passage = Passage { word: 0, at };
+    for _ in 0..equations {
+        passage = write_equation(arities, words, passage.word, text, passage.at)?;
     }
-    Passage::To(from, next)
+    Ok(passage)
 }
 
 pub fn write_lines(
@@ -108,7 +91,7 @@ pub fn write_lines(
     equations: usize,
     words: &[u16],
     text: &mut [u8],
-) -> Passage
+) -> Result<Passage, TooDeep>
     ensures { Passed text.old 0 (question_lines edition_one unknowns arities.now equations words.now) result text.new }
 {
     let first = put_header(unknowns, arities, equations, text, 0);

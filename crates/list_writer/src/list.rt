@@ -10,10 +10,9 @@ ghost use Rattle.writer.specs.Written.{held, measured, text_of_list, list_writte
 
 use lent_words::check_answers;
 use lines::list_lines::write_list;
-use results::written::Written;
-use search::ends::{End, Listed, end_of_number};
+use search::ends::{End, end_of_number};
 use search::limits::Limits;
-use terms::refusal::{Cause, Checked, Refusal};
+use terms::refusal::{Cause, Refusal};
 use writer::written::answer;
 
 // What is to be answered for checked words where so many bytes are lent: the text is written to a buffer that holds nothing.
@@ -24,7 +23,7 @@ fn measure_list(
     answers: usize,
     words: &[u16],
     room: usize,
-) -> Written
+) -> Result<usize, Refusal>
     ensures { result ≡ measured (list_lines edition_one (end_word end) arities.now visited answers words.now) room }
 {
     let mut nothing = [0u8; 0];
@@ -42,24 +41,20 @@ fn write_checked(
     answers: usize,
     words: &[u16],
     text: &mut [u8],
-) -> Written
+) -> Result<usize, Refusal>
     ensures value { result ≡ measured (list_lines edition_one (end_word end) arities.now visited answers words.now) (length text.old) }
     ensures held { Held result (list_lines edition_one (end_word end) arities.now visited answers words.now) text.old text.new }
 {
-    match measure_list(arities, end, visited, answers, words, text.len()) {
-        Written::Refused(refusal) => Written::Refused(refusal),
-        Written::Length(length) => {
-            write_list(arities, end, visited, answers, words, text);
-            Written::Length(length)
-        }
-    }
+    let length = measure_list(arities, end, visited, answers, words, text.len())?;
+    let _ = write_list(arities, end, visited, answers, words, text);
+    Ok(length)
 }
 
-fn check_list(arities: &[u8], visited: u64, answers: usize, words: &[u16]) -> Checked
+fn check_list(arities: &[u8], visited: u64, answers: usize, words: &[u16]) -> Result<(), Refusal>
     ensures { result ≡ above (ltb most_steps visited) 0 (check_answers edition_one arities.now answers words.now) }
 {
     if Limits::STEPS < visited {
-        return Checked::Refused(Refusal {
+        return Err(Refusal {
             cause: Cause::Limit,
             place: 0,
         });
@@ -76,18 +71,16 @@ pub fn write_answers(
     answers: usize,
     words: &[u16],
     text: &mut [u8],
-) -> Written
+) -> Result<usize, Refusal>
     ensures value { result ≡ list_written edition_one arities.now end visited answers words.now (length text.old) }
     ensures text_after { text.new ≡ held result (text_of_list (end_of end) visited (answers_of edition_one arities.now answers words.now)) text.old }
 {
-    match end_of_number(end) {
-        Listed::Nowhere => Written::Refused(Refusal {
+    let Some(ended) = end_of_number(end) else {
+        return Err(Refusal {
             cause: Cause::Limit,
             place: 0,
-        }),
-        Listed::As(ended) => match check_list(arities, visited, answers, words) {
-            Checked::Refused(refusal) => Written::Refused(refusal),
-            Checked::Fine => write_checked(arities, ended, visited, answers, words, text),
-        },
-    }
+        });
+    };
+    check_list(arities, visited, answers, words)?;
+    write_checked(arities, ended, visited, answers, words, text)
 }

@@ -28,7 +28,6 @@ ghost use Rattle.results.specs.Result.{RunGives, told};
 
 pub use results::ran::{Ending, Record};
 pub use results::read::Counts;
-pub use results::written::Written;
 pub use search::ends::{End, number_of_end};
 pub use terms::refusal::{Cause, Refusal, number_of};
 
@@ -46,17 +45,17 @@ pub fn read_question(text: &[u8], arities: &mut [u8], words: &mut [u16]) -> Resu
 
 // Writes a question as text.
 //   Lent: the question; a buffer for the text, of which 32,768 bytes always suffice.
-//   Back: `Length(n)`; the text stands in the first n bytes of its buffer, and what comes after it is unchanged. Or `Refused`: 3 with place 0 for the
+//   Back: `Ok(n)`; the text stands in the first n bytes of its buffer, and what comes after it is unchanged. Or the refusal, `Err`: 3 with place 0 for the
 //   unknowns, the arities or the equations; 3 at 4096 for too many words; 8 at the first word that can't stand there, or at the length; 6 at
 //   the word that opens a bracket too many; 7 with the length needed.
-//   Example: 1, [0], 1, [1000, 1, 2000, 1000] and a buffer of 65 bytes give Length(65), the six lines of `read_question`.
+//   Example: 1, [0], 1, [1000, 1, 2000, 1000] and a buffer of 65 bytes give Ok(65), the six lines of `read_question`.
 pub fn write_question(
     unknowns: usize,
     arities: &[u8],
     equations: usize,
     words: &[u16],
     text: &mut [u8],
-) -> Written
+) -> Result<usize, Refusal>
     ensures told { result ≡ question_written edition_one unknowns arities.now equations words.now (length text.old) }
     ensures text { text.new ≡ held result (question_text (question_of edition_one unknowns arities.now words.now)) text.old }
 {
@@ -77,7 +76,7 @@ pub fn write_answers(
     answers: usize,
     words: &[u16],
     text: &mut [u8],
-) -> Written
+) -> Result<usize, Refusal>
     ensures told { result ≡ list_written edition_one arities.now end visited answers words.now (length text.old) }
     ensures text { text.new ≡ held result (text_of_list (end_of end) visited (answers_of edition_one arities.now answers words.now)) text.old }
 {

@@ -1,6 +1,6 @@
 -- The sizes suffice: every good question's text is read and run, its list's text is shorter than the output, and no text is refused for want of space. A text is a
 -- list of bytes; that a good question's is shorter than the 32,768 that are read is `question-length` of text/specs/Sizes.antt.
-use Rattle.std.specs.Prelude.{ℕ, ◌≤◌, ◌<◌, ◌≡◌, List, length, replicate}
+use Rattle.std.specs.Prelude.{ℕ, ◌≤◌, ◌<◌, ◌≡◌, List, length, replicate, Ok}
 use Rattle.std.proofs.Math.Path.{refl}
 use native.Mathlib.Omega.{arith}
 use borrow.Author.Tests.{le-ltb, leb-true}
@@ -13,7 +13,6 @@ use Rattle.terms.specs.Refusal.{number}
 use Rattle.terms.specs.Term.{nesting}
 use Rattle.terms.specs.declared.refusal.Cause.TheVariants.{Nesting}
 use Rattle.terms.specs.declared.refusal.Refusal.{Refusal}
-use Rattle.terms.specs.declared.refusal.Checked.TheVariants.{Fine}
 use Rattle.checks.specs.Check.{above, check_answers, after_check}
 use Rattle.checks.specs.Lent.{good_check_question, question-back, check_answers-answered}
 use Rattle.search.specs.declared.ends.End.{End}
@@ -86,7 +85,7 @@ module _ (g : Question) (good : Good edition_one g) where
   few : outcome.visited ≤ STEPS
   few = steps_suffice (in_words g) lent outcome granted
 
-  list_fine_words : check_answers edition_one g.arities (length outcome.answers) (listed outcome.answers) ≡ Fine
+  list_fine_words : check_answers edition_one g.arities (length outcome.answers) (listed outcome.answers) ≡ Ok tt
   unfolding check_list above
   list_fine_words = rw (end_by_number outcome.end, le-ltb most_steps outcome.visited (omega (arith, few))) at (list_fine (in_words g) lent outcome granted)
 

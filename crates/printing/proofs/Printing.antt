@@ -1,4 +1,6 @@
 -- What is written to the output is what is printed: the two lines of a refusal, or the text of a list that its writer took.
+use Rattle.checks.specs.Check.{Checked}
+use Rattle.std.specs.Prelude.{Err, Ok, Result}
 use Prim.Native.Nat.{ℕ, ◌≤◌, ◌<◌}
 use mathlib.Core.Path.{◌≡◌, sym, ◌∙◌}
 use mathlib.Core.List.{List}
@@ -14,9 +16,6 @@ use Rattle.terms.specs.Refusal.{number}
 use Rattle.terms.specs.declared.refusal.Cause.{Cause}
 use Rattle.terms.specs.declared.refusal.Cause.TheVariants.{Byte, Number, Limit, Undeclared, Arguments, Nesting, Buffer, WordsStop, WordsMeaningless, WordsUndeclared, WordsLeft}
 use Rattle.terms.specs.declared.refusal.Refusal.{Refusal}
-use Rattle.terms.specs.declared.refusal.Checked.{Checked}
-use Rattle.terms.specs.declared.refusal.Checked.TheVariants.{Fine}
-use Rattle.terms.specs.declared.refusal.Checked.TheVariants as checked
 use Rattle.search.specs.Ends.{end_number, end_of}
 use Rattle.text.specs.Decimal.{decimal-length}
 use Rattle.text.specs.Sizes.{line-length}
@@ -25,8 +24,6 @@ use Rattle.word_writer.specs.Depths.{First, all_within, first_at}
 use Rattle.word_writer.specs.Pen.{most, counted, Wrote}
 use Rattle.word_writer.specs.Writing.{wrote_then}
 use Rattle.writer.specs.Written.{held, fitted, nested, tested, list_written, text_of_list}
-use Rattle.results.specs.declared.written.Written.{Written}
-use Rattle.results.specs.declared.written.Written.TheVariants.{Length, Refused}
 use Rattle.results.specs.declared.ran.Ending.{Ending}
 use Rattle.printing.specs.Solved.{OUTPUT, refused, of_written, of_list, refused_key, place_key, printed, Prints}
 
@@ -70,33 +67,33 @@ refusal_printed r e h k first second = wrote_prints (wrote_then (rw e at first) 
 
 -- ---- a list
 
-taken-length : (c : Checked) (deep : First) (room : ℕ) (text : List ℕ) (n : ℕ) → tested c deep room text ≡ Length n → n ≡ length text
+taken-length : (c : Checked) (deep : First) (room : ℕ) (text : List ℕ) (n : ℕ) → tested c deep room text ≡ Ok n → n ≡ length text
 unfolding tested nested fitted
-taken-length (checked.Refused r) deep room text n e = let z : ◌≡◌ {A = ℕ} 0 1 = cc in absurd (omega arith)
-taken-length Fine (first_at p) room text n e = let z : ◌≡◌ {A = ℕ} 0 1 = cc in absurd (omega arith)
-taken-length Fine all_within room text n e =
+taken-length (Err r) deep room text n e = let z : ◌≡◌ {A = ℕ} 0 1 = cc in absurd (omega arith)
+taken-length (Ok _) (first_at p) room text n e = let z : ◌≡◌ {A = ℕ} 0 1 = cc in absurd (omega arith)
+taken-length (Ok _) all_within room text n e =
     cases (ltb room (length text))
-    (λ t. let x : Refused _ ≡ Length n = rw t at e in let z : ◌≡◌ {A = ℕ} 0 1 = cc in absurd (omega arith))
-    (λ f. let x : Length (length text) ≡ Length n = rw f at e in cc)
+    (λ t. let x : Err _ ≡ Ok n = rw t at e in let z : ◌≡◌ {A = ℕ} 0 1 = cc in absurd (omega arith))
+    (λ f. let x : Ok (length text) ≡ Ok n = rw f at e in cc)
 
 module _ (arities : List ℕ) (e : Ending) (words before : List ℕ) where
   -- what the writer answers and leaves, for the end's number n
-  abbrev pub Writes : (n : ℕ) → Written → List ℕ → Type 0
+  abbrev pub Writes : (n : ℕ) → Result ℕ Refusal → List ℕ → Type 0
   Writes n w after =
       (w ≡ list_written edition_one arities n e.counts.visited e.counts.answers words (length before))
       × (after ≡ held w (text_of_list (end_of n) e.counts.visited (answers_of edition_one arities e.counts.answers words)) before)
 
-  pub list-printed : {n count : ℕ} {w : Written} {after : List ℕ} → n ≡ end_number e.end → length before ≡ OUTPUT → Writes n w after → w ≡ Length count
+  pub list-printed : {n count : ℕ} {w : Result ℕ Refusal} {after : List ℕ} → n ≡ end_number e.end → length before ≡ OUTPUT → Writes n w after → w ≡ Ok count
       → Prints (printed (of_list arities e words)) count before after
   unfolding printed of_list of_written held list_written
   list-printed {count = count} s l g i =
-      let told : list_written edition_one arities (end_number e.end) e.counts.visited e.counts.answers words OUTPUT ≡ Length count = rw (s, l) at (sym g.0 ∙ i) in
+      let told : list_written edition_one arities (end_number e.end) e.counts.visited e.counts.answers words OUTPUT ≡ Ok count = rw (s, l) at (sym g.0 ∙ i) in
       rw told (record { counts = taken-length _ _ OUTPUT _ count told; begins = rw (s, i) at g.1 })
 
-  pub list-refused : {n count : ℕ} {w : Written} {r : Refusal} {between after : List ℕ} → n ≡ end_number e.end → length before ≡ OUTPUT → Writes n w between → w ≡ Refused r
+  pub list-refused : {n count : ℕ} {w : Result ℕ Refusal} {r : Refusal} {between after : List ℕ} → n ≡ end_number e.end → length before ≡ OUTPUT → Writes n w between → w ≡ Err r
       → Prints (printed (refused r)) count between after → Prints (printed (of_list arities e words)) count before after
   unfolding printed of_list of_written held
   list-refused {r = r} {between} s l g i p =
-      let told : list_written edition_one arities (end_number e.end) e.counts.visited e.counts.answers words OUTPUT ≡ Refused r = rw (s, l) at (sym g.0 ∙ i) in
+      let told : list_written edition_one arities (end_number e.end) e.counts.visited e.counts.answers words OUTPUT ≡ Err r = rw (s, l) at (sym g.0 ∙ i) in
       let same : between ≡ before = rw i at g.1 in
       rw told (rw same at p)

@@ -1,6 +1,6 @@
 -- What the program `solve` prints, by what it reads. SPECIFICATION 10.1: it reads a question and runs it with steps 100,000, depth 96, size 256 and 4,096
 -- answer words; it prints the list's text, and on refusal `refused=` and `place=` only.
-use Rattle.std.specs.Prelude.{ℕ, ◌+◌, ◌*◌, ◌≤◌, ◌≡◌, List, [], ◌∷◌, ◌++◌, length, drop}
+use Rattle.std.specs.Prelude.{ℕ, ◌+◌, ◌*◌, ◌≤◌, ◌≡◌, List, [], ◌∷◌, ◌++◌, length, drop, Err, Ok, Result}
 use Rattle.std.proofs.Common.{arith, length-append}
 use Rattle.room.specs.Layout.{HEADER, SPARE_ROWS}
 use Rattle.terms.specs.Answers.{listed}
@@ -16,8 +16,6 @@ use Rattle.numerals.specs.TextReading as reading
 use Rattle.question_reader.specs.Questions.{Asked}
 use Rattle.reader.specs.LentBuffers.{question_into}
 use Rattle.writer.specs.Written.{list_written, text_of_list}
-use Rattle.results.specs.declared.written.Written.{Written}
-use Rattle.results.specs.declared.written.Written.TheVariants.{Length, Refused}
 use Rattle.results.specs.Loans.{ending}
 use Rattle.results.specs.declared.ran.Ending.{Ending}
 use Rattle.results.specs.Result.{Told, refuses, gives, told}
@@ -55,9 +53,9 @@ pub data Found : Type 0 where
 -- ---- a question is read, run, and its list written
 
 -- the writer takes the list, or refuses it
-unfoldable pub of_written : Written → (text : List ℕ) → Found
-of_written (Length n) text = lists text
-of_written (Refused r) text = refused r
+unfoldable pub of_written : Result ℕ Refusal → (text : List ℕ) → Found
+of_written (Ok n) text = lists text
+of_written (Err r) text = refused r
 
 -- the list of a run that ended so, in the bytes of the output
 unfoldable pub of_list : (arities : List ℕ) → Ending → (words : List ℕ) → Found

@@ -9,18 +9,11 @@ ghost use Rattle.printing.specs.Solved.{OUTPUT, Prints, refused, printed, of_lis
 use lines::line::put_number_line;
 use list_writer::list::write_answers;
 use results::ran::Ending;
-use results::written::Written;
 use search::ends::number_of_end;
 use terms::refusal::{Refusal, number_of};
 
 // More bytes than the text of any list of 4,096 words: `list_length` of text/specs/ListSizes.antt.
 pub const OUTPUT: usize = 65536;
-
-fn wide(number: u32) -> u64
-    ensures { result ≡ number }
-{
-    number as u64
-}
 
 // The two lines of a refusal.
 pub fn print_refusal(refusal: Refusal, output: &mut [u8]) -> usize
@@ -29,7 +22,7 @@ pub fn print_refusal(refusal: Refusal, output: &mut [u8]) -> usize
 {
     let cause = refusal.cause;
     let place = refusal.place;
-    let second = put_number_line(output, 0, b"refused=", wide(number_of(cause)));
+    let second = put_number_line(output, 0, b"refused=", u64::from(number_of(cause)));
     put_number_line(output, second, b"place=", place as u64)
 }
 
@@ -40,10 +33,10 @@ pub fn print_list(arities: &[u8], ending: Ending, words: &[u16], output: &mut [u
 {
     let end = ending.end;
     let counts = ending.counts;
-    let number = wide(number_of_end(end));
+    let number = u64::from(number_of_end(end));
     let count = counts.answers as usize;
     match write_answers(arities, number, counts.visited, count, words, output) {
-        Written::Length(length) => length,
-        Written::Refused(refusal) => print_refusal(refusal, output),
+        Ok(length) => length,
+        Err(refusal) => print_refusal(refusal, output),
     }
 }

@@ -1,5 +1,5 @@
 -- What a run tells, test by test: the limits, then the question, then the room; a refusal leaves the answers and the room as they were.
-use Rattle.std.specs.Prelude.{ℕ, ◌≤◌, ◌<◌, ◌≡◌, refl, List, length}
+use Rattle.std.specs.Prelude.{ℕ, ◌≤◌, ◌<◌, ◌≡◌, refl, List, length, Err, Ok}
 use Rattle.std.proofs.Common.{sym, ap, arith, Some, None, Result, Ok, Err}
 use borrow.Author.Tests.{le-ltb, lt-ltb}
 use Rattle.room.specs.Room.{put, put-nil}
@@ -8,7 +8,6 @@ use Rattle.terms.specs.Answers.{listed}
 use Rattle.terms.specs.Reading.{question_of}
 use Rattle.terms.specs.declared.refusal.Cause.TheVariants.{Limit, Buffer}
 use Rattle.terms.specs.declared.refusal.Refusal.{Refusal}
-use Rattle.terms.specs.declared.refusal.Checked.TheVariants.{Fine, Refused as Faulty}
 use Rattle.checks.specs.Check.{check_question, after_check}
 use Rattle.search.specs.declared.limits.Limits.{Limits}
 use Rattle.search.specs.RunLimits.{lent}
@@ -46,11 +45,11 @@ module _ (n : ℕ) (arities : List ℕ) (e : ℕ) (ws : List ℕ) (limits : Limi
   abbrev told_here : Told
   told_here = told_within n arities e ws (length a) (length l) (Some limits)
 
-  pub faulty : {why : Refusal} → check_question edition_one n arities e ws ≡ Faulty why → RunGives told_here (Err why) a a l l
+  pub faulty : {why : Refusal} → check_question edition_one n arities e ws ≡ Err why → RunGives told_here (Err why) a a l l
   unfolding told_within after_check
   faulty f = refused_so a l (rw f)
 
-  module _ (fine : check_question edition_one n arities e ws ≡ Fine) where
+  module _ (fine : check_question edition_one n arities e ws ≡ Ok tt) where
     pub small_room : length l < needed limits → RunGives told_here (Err (record { cause = Buffer; place = needed limits })) a a l l
     unfolding told_within after_check
     small_room h = refused_so a l (rw (fine, lt-ltb (length l) (needed limits) h))

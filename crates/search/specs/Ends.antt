@@ -1,9 +1,7 @@
 -- The number and word for every end: SPECIFICATION 6.2.
-use Rattle.std.specs.Prelude.{ℕ, cond, List, [], ◌∷◌, eqb}
+use Rattle.std.specs.Prelude.{ℕ, cond, List, [], ◌∷◌, eqb, None, Option, Some}
 use Rattle.search.specs.declared.ends.End.{End}
 use Rattle.search.specs.declared.ends.End.TheVariants.{Done, Steps, Depth, Names, Size, Space}
-use Rattle.search.specs.declared.ends.Listed.{Listed}
-use Rattle.search.specs.declared.ends.Listed.TheVariants.{As, Nowhere}
 
 abbrev pub end_number : End → ℕ
 end_number Done = 0
@@ -23,11 +21,11 @@ end_word Size = 115 ∷ 105 ∷ 122 ∷ 101 ∷ []
 end_word Space = 115 ∷ 112 ∷ 97 ∷ 99 ∷ 101 ∷ []
 
 -- the end of a number, if the table has it
-abbrev pub end_of : ℕ → Listed
+abbrev pub end_of : ℕ → Option End
 end_of n =
-    cond (eqb n 0) (As Done)
-    (cond (eqb n 20) (As Steps)
-    (cond (eqb n 21) (As Depth)
-    (cond (eqb n 22) (As Size)
-    (cond (eqb n 23) (As Space)
-    (cond (eqb n 24) (As Names) Nowhere)))))
+    cond (eqb n 0) (Some Done)
+    (cond (eqb n 20) (Some Steps)
+    (cond (eqb n 21) (Some Depth)
+    (cond (eqb n 22) (Some Size)
+    (cond (eqb n 23) (Some Space)
+    (cond (eqb n 24) (Some Names) None)))))

@@ -18,13 +18,6 @@ pub enum End {
     Space,
 }
 
-// The end that has a number, if the table has it.
-#[derive(Clone, Copy)]
-pub enum Listed {
-    As(End),
-    Nowhere,
-}
-
 // The table's number.
 pub fn number_of_end(end: End) -> u32
     ensures { result ≡ end_number end }
@@ -39,17 +32,18 @@ pub fn number_of_end(end: End) -> u32
     }
 }
 
-// The table's end of that number.
-pub fn end_of_number(number: u64) -> Listed
+// The table's end of that number, if it has one.
+// Kept: a function beside `number_of_end`, as the definitions `end_of` and `end_number` are; `TryFrom` would want an error type that tells nothing.
+pub fn end_of_number(number: u64) -> Option<End>
     ensures { result ≡ end_of number }
 {
     match number {
-        0 => Listed::As(End::Done),
-        20 => Listed::As(End::Steps),
-        21 => Listed::As(End::Depth),
-        22 => Listed::As(End::Size),
-        23 => Listed::As(End::Space),
-        24 => Listed::As(End::Names),
-        _ => Listed::Nowhere,
+        0 => Some(End::Done),
+        20 => Some(End::Steps),
+        21 => Some(End::Depth),
+        22 => Some(End::Size),
+        23 => Some(End::Space),
+        24 => Some(End::Names),
+        _ => None,
     }
 }

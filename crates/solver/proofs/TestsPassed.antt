@@ -1,4 +1,5 @@
 -- What the tests of a run leave for its start: limits within their bounds, a good question in its words, and a room that is large enough.
+use Rattle.std.specs.Prelude.{Ok}
 use Prim.Native.Nat.{ℕ, ◌≤◌}
 use mathlib.Core.Path.{◌≡◌, sym}
 use mathlib.Core.List.{List}
@@ -11,7 +12,6 @@ use Rattle.terms.specs.Bounds.{edition_one, edition_one_proper}
 use Rattle.checks.specs.Check.{check_question}
 use Rattle.checks.specs.Lent.{check_question-asked}
 use Rattle.terms.specs.Reading.{question_of}
-use Rattle.terms.specs.declared.refusal.Checked.TheVariants.{Fine}
 use Rattle.terms.specs.Lists.{cases}
 use Rattle.search.specs.declared.limits.Limits.{Limits}
 use Rattle.search.specs.RunLimits.{lent, most_steps, most_depth, most_size}
@@ -23,13 +23,13 @@ use Rattle.search_turn.specs.Running.{Ends}
 use Rattle.search_turn.proofs.GoesOn.{needed_small}
 use Rattle.solver.specs.Start.{Asking, Bounded, whole_run}
 
-pub fine_run : (n : ℕ) (arities : List ℕ) (e : ℕ) (ws : List ℕ) (limits : Limits) (a l : List ℕ) → check_question edition_one n arities e ws ≡ Fine
+pub fine_run : (n : ℕ) (arities : List ℕ) (e : ℕ) (ws : List ℕ) (limits : Limits) (a l : List ℕ) → check_question edition_one n arities e ws ≡ Ok tt
     → {r : Ending} {answers room : List ℕ} → needed limits ≤ length l → Ends (whole_run n arities ws limits a) r answers
     → RunGives (told_within n arities e ws (length a) (length l) (Some limits)) (Ok r) a answers l room
 unfolding whole_run
 fine_run n arities e ws limits a l fine h E = given_so (is_run n arities e ws limits a l fine h) (sym E.ending) (sym E.answers)
 
-pub asking : {n : ℕ} {arities : List ℕ} (e : ℕ) {ws : List ℕ} {limits : Limits} {l : List ℕ} → Bounded limits → check_question edition_one n arities e ws ≡ Fine → length l ≡ needed limits
+pub asking : {n : ℕ} {arities : List ℕ} (e : ℕ) {ws : List ℕ} {limits : Limits} {l : List ℕ} → Bounded limits → check_question edition_one n arities e ws ≡ Ok tt → length l ≡ needed limits
     → Asking n arities ws limits l
 unfolding question_of
 asking {n} {arities} e {ws} {limits} B f h =

@@ -15,7 +15,7 @@ use search::ends::End;
 use search::limits::Limits;
 use search_loop::enter_root;
 use search_loop::row::write_root;
-use terms::refusal::{Cause, Checked, Refusal};
+use terms::refusal::{Cause, Refusal};
 
 // The run of a good question in a room that is large enough.
 fn start(
@@ -64,8 +64,8 @@ fn run_within(
     ensures { RunGives (told_within unknowns arities.now equations words.now (length answers.old) (length room.old) (Some limits)) result answers.old answers.new room.old room.new }
 {
     match check_question(unknowns, arities, equations, words) {
-        Checked::Refused(refusal) => Err(refusal),
-        Checked::Fine => {
+        Err(refusal) => Err(refusal),
+        Ok(()) => {
             let needed = (limits.depth + SPARE_ROWS) * (limits.size + HEADER);
             if room.len() < needed {
                 return Err(Refusal {

@@ -6,65 +6,68 @@ ghost use Rattle.word_writer.specs.WordByWord.{symbol, continues, word as writte
 
 use terms::bounds::NESTING;
 use word_writer::begin::{Symbol, begin, begin_tail, symbol_of};
-use word_writer::bracket::{MEMBER, Pen, REST, Step, TAIL, close};
-use word_writer::put::{Passage, put_byte};
+use word_writer::bracket::{Bracket, Pen, close};
+use word_writer::put::{Passage, TooDeep, put_byte};
 
 // A word where the rest of a set is due, in the innermost bracket.
-fn continue_set(symbol: Symbol, stack: &mut [u16], depth: usize, text: &mut [u8], at: usize) -> Step
-    requires { (0 < depth) × (depth ≤ length stack.old) }
-    ensures { Stepped text.old at (continues (length stack.old) symbol (brackets stack.old (depth - 1))) result stack.new text.new }
+fn continue_set(symbol: Symbol, stack: &mut [Bracket], pen: Pen, text: &mut [u8]) -> Option<Pen>
+    requires { (0 < pen.depth) × (pen.depth ≤ length stack.old) }
+    ensures { Stepped text.old pen.at (continues (length stack.old) symbol (brackets stack.old (pen.depth - 1))) result stack.new text.new }
 {
+    let depth = pen.depth;
     match symbol {
         Symbol::Empty => {
-            stack[depth - 1] = TAIL;
-            Step::On(close(stack, depth, text, at))
+            stack[depth - 1] = Bracket::Tail;
+            Some(close(stack, pen, text))
         }
         Symbol::Adding => {
-            let next = put_byte(text, at, b',');
-            stack[depth - 1] = MEMBER;
-            Step::On(Pen { depth, at: next })
+            stack[depth - 1] = Bracket::Member;
+            let at = put_byte(text, pen.at, b',');
+            Some(Pen { depth, at })
         }
-        Symbol::Unknown(_) => begin_tail(symbol, stack, depth, text, at),
-        Symbol::Functor(_, _) => begin_tail(symbol, stack, depth, text, at),
+        Symbol::Unknown(_) => begin_tail(symbol, stack, pen, text),
+        Symbol::Functor(_, _) => begin_tail(symbol, stack, pen, text),
     }
 }
 
-fn write_word(symbol: Symbol, stack: &mut [u16], depth: usize, text: &mut [u8], at: usize) -> Step
-    requires { depth ≤ length stack.old }
-    ensures { Stepped text.old at (written-word (length stack.old) symbol (brackets stack.old depth)) result stack.new text.new }
+// A word, whatever is due; or none, where it would open a bracket too many.
+fn write_word(symbol: Symbol, stack: &mut [Bracket], pen: Pen, text: &mut [u8]) -> Option<Pen>
+    requires { pen.depth ≤ length stack.old }
+    ensures { Stepped text.old pen.at (written-word (length stack.old) symbol (brackets stack.old pen.depth)) result stack.new text.new }
 {
+    let depth = pen.depth;
     if 0 < depth {
-        if stack[depth - 1] == REST {
-            return continue_set(symbol, stack, depth, text, at);
+        if let Bracket::Rest = stack[depth - 1] {
+            return continue_set(symbol, stack, pen, text);
         }
-        return begin(symbol, stack, depth, text, at);
     }
-    begin(symbol, stack, depth, text, at)
+    begin(symbol, stack, pen, text)
 }
 
 // The term that begins at the word `from`.
-pub fn write_term(arities: &[u8], words: &[u16], from: usize, text: &mut [u8], at: usize) -> Passage
+pub fn write_term(
+    arities: &[u8],
+    words: &[u16],
+    from: usize,
+    text: &mut [u8],
+    at: usize,
+) -> Result<Passage, TooDeep>
     ensures { Passed text.old at (term_at edition_one arities.now words.now from) result text.new }
 {
-    let mut stack = [0u16; NESTING];
-    let mut depth = 0;
-    let mut next = at;
-    let mut p = from;
-    while p < words.len() {
-        let symbol = symbol_of(arities, words[p]);
-        match write_word(symbol, &mut stack, depth, text, next) {
-            Step::On(pen) => {
-                p += 1;
-                depth = pen.depth;
-                next = pen.at;
-                if depth == 0 {
-                    return Passage::To(p, next);
-                }
-            }
-            Step::Deep => {
-                return Passage::TooDeep(p);
-            }
+    let mut stack = [Bracket::Rest; NESTING];
+    let mut pen = Pen { depth: 0, at };
+    for word in from..words.len() {
+        let symbol = symbol_of(arities, words[word]);
+        pen = write_word(symbol, &mut stack, pen, text).ok_or(TooDeep { word })?;
+        if pen.depth == 0 {
+            return Ok(Passage {
+                word: word + 1,
+                at: pen.at,
+            });
         }
     }
-    Passage::To(p, next)
+    Ok(Passage {
+        word: from.max(words.len()),
+        at: pen.at,
+    })
 }

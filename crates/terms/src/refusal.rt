@@ -35,13 +35,6 @@ pub struct Refusal {
     pub place: usize,
 }
 
-// The answer of a check: nothing is wrong, or the first fault.
-#[derive(Clone, Copy)]
-pub enum Checked {
-    Fine,
-    Refused(Refusal),
-}
-
 // The table's number.
 pub fn number_of(cause: Cause) -> u32
     ensures { result ≡ number cause }

@@ -7,33 +7,35 @@ use mathlib.Core.List.{List, [], ◌∷◌}
 use lib.ListN.{length, get_or, set, length-set}
 use lib.Seq.{get_or-set_other, get_or-set_same}
 use Rattle.word_writer.specs.Pen.{most, Wrote}
-use Rattle.word_writer.specs.OpenBrackets.{Bracket, closing, closed, bracket, brackets, Holds}
+use Rattle.word_writer.specs.OpenBrackets.{closing, closed, brackets, Holds}
+use Rattle.word_writer.specs.declared.bracket.Bracket.{Bracket}
+use Rattle.word_writer.specs.declared.bracket.Bracket.TheVariants.{Member, Rest, Tail, Arguments}
 use Rattle.word_writer.specs.Writing.{wrote_nothing, wrote_then, wrote_as, length_wrote, next-most}
 
-pub length-brackets : (stack : List ℕ) (d : ℕ) → length (brackets stack d) ≡ d
+pub length-brackets : (stack : List Bracket) (d : ℕ) → length (brackets stack d) ≡ d
 unfolding brackets
 length-brackets stack zero = refl
 length-brackets stack (suc d) = ap suc (length-brackets stack d)
 
-pub brackets-below : (stack : List ℕ) (i v d : ℕ) → d ≤ i → brackets (set stack i v) d ≡ brackets stack d
+pub brackets-below : (stack : List Bracket) (i : ℕ) (v : Bracket) (d : ℕ) → d ≤ i → brackets (set stack i v) d ≡ brackets stack d
 unfolding brackets
 brackets-below stack i v zero h = refl
-brackets-below stack i v (suc d) h = rw (get_or-set_other stack i d v 0 (omega arith), brackets-below stack i v d (omega arith))
+brackets-below stack i v (suc d) h = rw (get_or-set_other stack i d v Member (omega arith), brackets-below stack i v d (omega arith))
 
-pub brackets-push : (stack : List ℕ) (d v : ℕ) → d < length stack → brackets (set stack d v) (d + 1) ≡ bracket v ∷ brackets stack d
+pub brackets-push : (stack : List Bracket) (d : ℕ) (v : Bracket) → d < length stack → brackets (set stack d v) (d + 1) ≡ v ∷ brackets stack d
 unfolding brackets
-brackets-push stack d v h = rw (add-one, get_or-set_same stack d v 0 h, brackets-below stack d v d (omega arith))
+brackets-push stack d v h = rw (add-one, get_or-set_same stack d v Member h, brackets-below stack d v d (omega arith))
 
-module _ (stack : List ℕ) (d : ℕ) (some : 0 < d) where
-  pub brackets-top : (due : ℕ) → get_or stack (d - 1) 0 ≡ due → brackets stack d ≡ bracket due ∷ brackets stack (d - 1)
+module _ (stack : List Bracket) (d : ℕ) (some : 0 < d) where
+  pub brackets-top : (due : Bracket) → get_or stack (d - 1) Member ≡ due → brackets stack d ≡ due ∷ brackets stack (d - 1)
   unfolding brackets
   brackets-top due e = go d some due e
     where
-      go : (d : ℕ) → 0 < d → (due : ℕ) → get_or stack (d - 1) 0 ≡ due → brackets stack d ≡ bracket due ∷ brackets stack (d - 1)
+      go : (d : ℕ) → 0 < d → (due : Bracket) → get_or stack (d - 1) Member ≡ due → brackets stack d ≡ due ∷ brackets stack (d - 1)
       go zero h due e = absurd (omega arith)
-      go (suc d) h due e = let z : suc d - 1 ≡ d = omega arith in let f : get_or stack d 0 ≡ due = rw z at e in rw (z, f)
+      go (suc d) h due e = let z : suc d - 1 ≡ d = omega arith in let f : get_or stack d Member ≡ due = rw z at e in rw (z, f)
 
-  pub brackets_change : (v : ℕ) → d ≤ length stack → brackets (set stack (d - 1) v) d ≡ bracket v ∷ brackets stack (d - 1)
+  pub brackets_change : (v : Bracket) → d ≤ length stack → brackets (set stack (d - 1) v) d ≡ v ∷ brackets stack (d - 1)
   brackets_change v h =
       let z : d - 1 + 1 ≡ d = omega arith in
       rw z at (brackets-push stack (d - 1) v (omega arith))
@@ -41,7 +43,7 @@ module _ (stack : List ℕ) (d : ℕ) (some : 0 < d) where
 -- ---- closing
 
 -- what closes the brackets that are left closes them all
-pub record Left (stack₀ text₀ : List ℕ) (depth at₀ : ℕ) (stack text : List ℕ) (d at : ℕ) : Type 0 where
+pub record Left (stack₀ : List Bracket) (text₀ : List ℕ) (depth at₀ : ℕ) (stack : List Bracket) (text : List ℕ) (d at : ℕ) : Type 0 where
   pub within : d ≤ length stack
   pub short : length text ≤ most
   pub reach : at ≤ most
@@ -50,12 +52,12 @@ pub record Left (stack₀ text₀ : List ℕ) (depth at₀ : ℕ) (stack text : 
   pub writes : (last : List ℕ) (end : ℕ) → Wrote text at (closing (brackets stack d)) last end → Wrote text₀ at₀ (closing (brackets stack₀ depth)) last end
   pub keeps : closed (brackets stack d) ≡ closed (brackets stack₀ depth)
 
-pub all_left : (stack text : List ℕ) (depth at : ℕ) → depth ≤ length stack → length text ≤ most → at ≤ most → Left stack text depth at stack text depth at
+pub all_left : (stack : List Bracket) (text : List ℕ) (depth at : ℕ) → depth ≤ length stack → length text ≤ most → at ≤ most → Left stack text depth at stack text depth at
 all_left stack text depth at h k r = record { within = h; short = k; reach = r; stack_kept = refl; text_kept = refl; writes = λ last end w. w; keeps = refl }
 
-module _ {stack₀ text₀ stack text : List ℕ} {depth at₀ d at : ℕ} (left : Left stack₀ text₀ depth at₀ stack text d at) where
+module _ {stack₀ stack : List Bracket} {text₀ text : List ℕ} {depth at₀ d at : ℕ} (left : Left stack₀ text₀ depth at₀ stack text d at) where
   -- what `close` owes, with the stack and the text as they are at its end
-  abbrev Closes : List ℕ → ℕ → List ℕ → ℕ → Type 0
+  abbrev Closes : List Bracket → ℕ → List ℕ → ℕ → Type 0
   Closes stack' d' text' at' = Wrote text₀ at₀ (closing (brackets stack₀ depth)) text' at' × Holds stack' d' (closed (brackets stack₀ depth))
 
   -- no bracket is left
@@ -72,7 +74,7 @@ module _ {stack₀ text₀ stack text : List ℕ} {depth at₀ d at : ℕ} (left
     under = brackets stack (d - 1)
 
     -- the innermost bracket closes by a byte, and the next is looked at
-    closes : (due byte : ℕ) → get_or stack (d - 1) 0 ≡ due → closing (bracket due ∷ under) ≡ byte ∷ closing under → closed (bracket due ∷ under) ≡ closed under
+    closes : (due : Bracket) (byte : ℕ) → get_or stack (d - 1) Member ≡ due → closing (due ∷ under) ≡ byte ∷ closing under → closed (due ∷ under) ≡ closed under
         → {text' : List ℕ} {at' : ℕ} → Wrote text at (byte ∷ []) text' at' → Left stack₀ text₀ depth at₀ stack text' (d - 1) at'
     closes due byte e f g {text'} {at'} w =
         let top = brackets-top stack d some due e in
@@ -86,16 +88,18 @@ module _ {stack₀ text₀ stack text : List ℕ} {depth at₀ d at : ℕ} (left
           keeps = sym (ap closed top ∙ g) ∙ left.keeps;
         }
 
-    pub closes_tail : get_or stack (d - 1) 0 ≡ 2 → {text' : List ℕ} {at' : ℕ} → Wrote text at (125 ∷ []) text' at' → Left stack₀ text₀ depth at₀ stack text' (d - 1) at'
-    unfolding closing closed bracket
-    closes_tail e w = closes 2 125 e refl refl w
+    pub closes_tail : get_or stack (d - 1) Member ≡ Tail → {text' : List ℕ} {at' : ℕ} → Wrote text at (125 ∷ []) text' at' → Left stack₀ text₀ depth at₀ stack text' (d - 1) at'
+    unfolding closing closed
+    closes_tail e w = closes Tail 125 e refl refl w
 
-    pub closes-arguments : get_or stack (d - 1) 0 ≡ 3 → {text' : List ℕ} {at' : ℕ} → Wrote text at (41 ∷ []) text' at' → Left stack₀ text₀ depth at₀ stack text' (d - 1) at'
-    unfolding closing closed bracket
-    closes-arguments e w = closes 3 41 e refl refl w
+    pub closes-arguments : (m : ℕ) → get_or stack (d - 1) Member ≡ Arguments m → m ≤ 0 → {text' : List ℕ} {at' : ℕ} → Wrote text at (41 ∷ []) text' at'
+        → Left stack₀ text₀ depth at₀ stack text' (d - 1) at'
+    unfolding closing closed
+    closes-arguments zero e h w = closes (Arguments 0) 41 e refl refl w
+    closes-arguments (suc n) e h w = absurd (omega arith)
 
     -- the innermost bracket stays open, and what is due in it changes
-    stays : (due now : ℕ) → get_or stack (d - 1) 0 ≡ due → (bytes : List ℕ) → closing (bracket due ∷ under) ≡ bytes → closed (bracket due ∷ under) ≡ bracket now ∷ under
+    stays : (due now : Bracket) → get_or stack (d - 1) Member ≡ due → (bytes : List ℕ) → closing (due ∷ under) ≡ bytes → closed (due ∷ under) ≡ now ∷ under
         → {text' : List ℕ} {at' : ℕ} → Wrote text at bytes text' at' → Closes (set stack (d - 1) now) d text' at'
     stays due now e bytes f g {text'} {at'} w =
         let is = brackets-top stack d some due e in (
@@ -106,25 +110,18 @@ module _ {stack₀ text₀ stack text : List ℕ} {depth at₀ d at : ℕ} (left
           },
         )
 
-    pub stays_member : get_or stack (d - 1) 0 ≡ 0 → Closes (set stack (d - 1) 1) d text at
-    unfolding closing closed bracket
-    stays_member e = stays 0 1 e [] refl refl (wrote_nothing left.short left.reach)
+    pub stays_member : get_or stack (d - 1) Member ≡ Member → Closes (set stack (d - 1) Rest) d text at
+    unfolding closing closed
+    stays_member e = stays Member Rest e [] refl refl (wrote_nothing left.short left.reach)
 
-    pub stays_rest : get_or stack (d - 1) 0 ≡ 1 → Closes stack d text at
-    unfolding closing closed bracket
+    pub stays_rest : get_or stack (d - 1) Member ≡ Rest → Closes stack d text at
+    unfolding closing closed
     stays_rest e =
-        let is = brackets-top stack d some 1 e in
+        let is = brackets-top stack d some Rest e in
         (left.writes text at (wrote_as (sym (ap closing is)) (wrote_nothing left.short left.reach)), record { depth_in = left.within; are = is ∙ sym (ap closed is) ∙ left.keeps })
 
-    pub stays_argument : 3 < get_or stack (d - 1) 0 → {text' : List ℕ} {at' : ℕ} → Wrote text at (44 ∷ []) text' at' → Closes (set stack (d - 1) (get_or stack (d - 1) 0 - 1)) d text' at'
-    unfolding closing closed bracket
-    stays_argument h {text'} {at'} w = go (get_or stack (d - 1) 0) refl h
-      where
-        go : (due : ℕ) → get_or stack (d - 1) 0 ≡ due → 3 < due → Closes (set stack (d - 1) (due - 1)) d text' at'
-        go zero e h = absurd (omega arith)
-        go (suc zero) e h = absurd (omega arith)
-        go (suc (suc zero)) e h = absurd (omega arith)
-        go (suc (suc (suc zero))) e h = absurd (omega arith)
-        go (suc (suc (suc (suc n)))) e h =
-            let z : suc (suc (suc (suc n))) - 1 ≡ suc (suc (suc n)) = omega arith in
-            rw z (stays (suc (suc (suc (suc n)))) (suc (suc (suc n))) e (44 ∷ []) refl refl w)
+    pub stays_argument : (m : ℕ) → get_or stack (d - 1) Member ≡ Arguments m → 0 < m → {text' : List ℕ} {at' : ℕ} → Wrote text at (44 ∷ []) text' at'
+        → Closes (set stack (d - 1) (Arguments (m - 1))) d text' at'
+    unfolding closing closed
+    stays_argument zero e h w = absurd (omega arith)
+    stays_argument (suc n) e h w = let z : suc n - 1 ≡ n = omega arith in rw z (stays (Arguments (suc n)) (Arguments n) e (44 ∷ []) refl refl w)

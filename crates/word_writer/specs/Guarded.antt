@@ -8,11 +8,10 @@ use mathlib.Core.List.{List, [], ◌∷◌, ◌++◌, append_assoc}
 use Rattle.std.proofs.Math.ListN.{length}
 use Rattle.std.proofs.Common.{lt-ltb, le-ltb, ltb-true, ltb-false}
 use Rattle.terms.specs.Lists.{cases}
-use Rattle.terms.specs.Lists as lists
 use Rattle.terms.specs.Bounds.{Bounds, Proper}
 use Rattle.terms.specs.Kind.{kind, kind_unknown, kind_functor}
 use Rattle.text.specs.Text.{choose}
-use Rattle.word_writer.specs.OpenBrackets.{Bracket}
+use Rattle.word_writer.specs.declared.bracket.Bracket.{Bracket}
 use Rattle.word_writer.specs.WordByWord.{Writes, writes, deep, after, opens, symbol_of, symbol, Walk, ended, too_deep, prepend, onward, next}
 use Rattle.word_writer.specs.declared.begin.Symbol.TheVariants.{Empty, Adding, Unknown, Functor}
 

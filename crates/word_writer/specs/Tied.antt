@@ -7,7 +7,9 @@ use Rattle.terms.specs.Kind.{Worded}
 use Rattle.terms.specs.Term.{Term, Terms, unknown, empty, with, functor, none, more, words, words*, size, size*, count}
 use Rattle.terms.specs.Formed.{Formed, Formed*, formed_unknown, formed_empty, formed_with, formed_functor, formed_none, formed_more}
 use Rattle.text.specs.Text.{text, after_member, arguments, after_argument, unknown_name, functor_name}
-use Rattle.word_writer.specs.OpenBrackets.{Bracket, member, rest, tail, argument, closing, closed}
+use Rattle.word_writer.specs.OpenBrackets.{closing, closed}
+use Rattle.word_writer.specs.declared.bracket.Bracket.{Bracket}
+use Rattle.word_writer.specs.declared.bracket.Bracket.TheVariants.{Member, Rest, Tail, Arguments}
 use Rattle.word_writer.specs.Depths.{depths, rest_depths, argument_depths, further_depths}
 use Rattle.word_writer.specs.WordByWord.{writes, opens, begins, continues, word, symbol, Walk, prepend, onward, next, walk}
 use Rattle.word_writer.specs.declared.begin.Symbol.{Symbol}
@@ -44,9 +46,9 @@ finish b arities p ws bs = prepend (closing bs) (onward p (walk b arities p ws) 
 -- a walk where a term is due: the innermost bracket waits for no rest
 pub data Due : List Bracket → Type 0 where
   due_first : Due []
-  due_member : {bs : List Bracket} → Due (member ∷ bs)
-  due_tail : {bs : List Bracket} → Due (tail ∷ bs)
-  due_argument : {n : ℕ} {bs : List Bracket} → Due (argument n ∷ bs)
+  due_member : {bs : List Bracket} → Due (Member ∷ bs)
+  due_tail : {bs : List Bracket} → Due (Tail ∷ bs)
+  due_argument : {n : ℕ} {bs : List Bracket} → Due (Arguments n ∷ bs)
 
 word-due : {bs : List Bracket} (limit : ℕ) (s : Symbol) → Due bs → word limit s bs ≡ begins limit s bs
 unfolding word
@@ -94,7 +96,7 @@ module _ {b : Bounds} {arities : List ℕ} {n : ℕ} (worded : Worded b arities 
   begun w ws p {bs} s e d = rw (e, word-due limit s d)
 
   continued : (w : ℕ) (ws : List ℕ) (p : ℕ) (bs : List Bracket) (s : Symbol) → symbol b arities w ≡ s
-      → walk b arities p (w ∷ ws) (rest ∷ bs) ≡ next (continues limit s bs) p (walk b arities (p + 1) ws)
+      → walk b arities p (w ∷ ws) (Rest ∷ bs) ≡ next (continues limit s bs) p (walk b arities (p + 1) ws)
   unfolding walk word
   continued w ws p bs s e = rw e
 
@@ -112,31 +114,31 @@ module _ {b : Bounds} {arities : List ℕ} {n : ℕ} (worded : Worded b arities 
   unfolding continues closing closed
   no_tail ws p bs = single (125 ∷ []) ws p bs
 
-  further : (ws : List ℕ) (p : ℕ) (bs : List Bracket) → Part limit (next (continues limit Adding bs) p (walk b arities (p + 1) ws)) p (0 ∷ []) (44 ∷ []) (walk b arities (p + 1) ws (member ∷ bs))
+  further : (ws : List ℕ) (p : ℕ) (bs : List Bracket) → Part limit (next (continues limit Adding bs) p (walk b arities (p + 1) ws)) p (0 ∷ []) (44 ∷ []) (walk b arities (p + 1) ws (Member ∷ bs))
   unfolding continues next onward
   further ws p bs = record { is = sym (guard_none limit p _) }
 
   moved : {p q : ℕ} (ws : List ℕ) (bs : List Bracket) → p ≡ q → finish b arities p ws bs ≡ finish b arities q ws bs
   moved ws bs e = ap (λ p. finish b arities p ws bs) e
 
-  finish_member : (p : ℕ) (ws : List ℕ) (bs : List Bracket) → finish b arities p ws (member ∷ bs) ≡ walk b arities p ws (rest ∷ bs)
+  finish_member : (p : ℕ) (ws : List ℕ) (bs : List Bracket) → finish b arities p ws (Member ∷ bs) ≡ walk b arities p ws (Rest ∷ bs)
   unfolding finish closing closed onward
   finish_member p ws bs = prepend-nothing _
 
-  finish_tail : (p : ℕ) (ws : List ℕ) (bs : List Bracket) → Part limit (finish b arities p ws (tail ∷ bs)) p [] (125 ∷ []) (finish b arities p ws bs)
+  finish_tail : (p : ℕ) (ws : List ℕ) (bs : List Bracket) → Part limit (finish b arities p ws (Tail ∷ bs)) p [] (125 ∷ []) (finish b arities p ws bs)
   unfolding finish closing closed guard
   finish_tail p ws bs = record { is = prepend-append (125 ∷ []) (closing bs) _ }
 
-  finish-last : (p : ℕ) (ws : List ℕ) (bs : List Bracket) → Part limit (finish b arities p ws (argument 0 ∷ bs)) p [] (41 ∷ []) (finish b arities p ws bs)
+  finish-last : (p : ℕ) (ws : List ℕ) (bs : List Bracket) → Part limit (finish b arities p ws (Arguments 0 ∷ bs)) p [] (41 ∷ []) (finish b arities p ws bs)
   unfolding finish closing closed guard
   finish-last p ws bs = record { is = prepend-append (41 ∷ []) (closing bs) _ }
 
-  finish_argument : (m p : ℕ) (ws : List ℕ) (bs : List Bracket) → Part limit (finish b arities p ws (argument (suc m) ∷ bs)) p [] (44 ∷ []) (walk b arities p ws (argument m ∷ bs))
+  finish_argument : (m p : ℕ) (ws : List ℕ) (bs : List Bracket) → Part limit (finish b arities p ws (Arguments (suc m) ∷ bs)) p [] (44 ∷ []) (walk b arities p ws (Arguments m ∷ bs))
   unfolding finish closing closed onward guard
   finish_argument m p ws bs = record { is = refl }
 
   -- the tail of a set: a bar before it, and the closing bracket after it
-  tail_over : {p q : ℕ} {ds us : List ℕ} {x : Walk} (ws : List ℕ) (bs : List Bracket) → Part limit x p ds us (finish b arities q ws (tail ∷ bs)) → p + length ds ≡ q
+  tail_over : {p q : ℕ} {ds us : List ℕ} {x : Walk} (ws : List ℕ) (bs : List Bracket) → Part limit x p ds us (finish b arities q ws (Tail ∷ bs)) → p + length ds ≡ q
       → Part limit (prepend (124 ∷ []) x) p ds (124 ∷ (us ++ (125 ∷ []))) (finish b arities q ws bs)
   tail_over {p} {q} {ds} ws bs f e = before (124 ∷ []) (rw (append-nil ds) at (chain f (finish_tail q ws bs) e refl))
 
@@ -152,29 +154,29 @@ module _ {b : Bounds} {arities : List ℕ} {n : ℕ} (worded : Worded b arities 
         rw append_assoc
         (from (begun 1 (words b m ++ (words b r ++ ws)) p Adding (symbol_adding arities worded.proper) d)
         (chain
-        (chain (opening (123 ∷ []) member bs p (words b m ++ (words b r ++ ws)))
-        (over f (words b r ++ ws) (p + 1) (member ∷ bs) due_member) refl (finish_member (p + 1 + size m) (words b r ++ ws) bs))
+        (chain (opening (123 ∷ []) Member bs p (words b m ++ (words b r ++ ws)))
+        (over f (words b r ++ ws) (p + 1) (Member ∷ bs) due_member) refl (finish_member (p + 1 + size m) (words b r ++ ws) bs))
         (over-rest g ws (p + 1 + size m) bs) (omega (arith, length_depths (suc (length bs)) m)) (moved ws bs (omega arith))))
     over (formed_functor {k = k} {ts = ts} h e f) ws p bs d =
         from (begun (b.first_functor + k) (words* b ts ++ ws) p (Functor k (count ts)) (symbol_functor arities worded.proper k (omega (arith, worded.functors)) ∙ ap (Functor k) (sym e)) d) (over-arguments k f ws p bs)
 
     pub over-rest : {r : Term} → Formed arities n r → (ws : List ℕ) (p : ℕ) (bs : List Bracket)
-        → Part limit (walk b arities p (words b r ++ ws) (rest ∷ bs)) p (rest_depths (suc (length bs)) r) (after_member r) (finish b arities (p + size r) ws bs)
+        → Part limit (walk b arities p (words b r ++ ws) (Rest ∷ bs)) p (rest_depths (suc (length bs)) r) (after_member r) (finish b arities (p + size r) ws bs)
     over-rest (formed_unknown {i = i} h) ws p bs =
         from (continued (b.first_unknown + i) ws p bs (Unknown i) (symbol_unknown arities worded.proper i (omega (arith, worded.unknowns))) ∙ next-after (124 ∷ []) _ p _)
-        (tail_over ws bs (single (unknown_name i) ws p (tail ∷ bs)) refl)
+        (tail_over ws bs (single (unknown_name i) ws p (Tail ∷ bs)) refl)
     over-rest formed_empty ws p bs = from (continued 0 ws p bs Empty (symbol_empty arities worded.proper)) (no_tail ws p bs)
     over-rest (formed_with {m = m} {r = r} f g) ws p bs =
         rw append_assoc
         (from (continued 1 (words b m ++ (words b r ++ ws)) p bs Adding (symbol_adding arities worded.proper))
         (chain
         (chain (further (words b m ++ (words b r ++ ws)) p bs)
-        (over f (words b r ++ ws) (p + 1) (member ∷ bs) due_member) refl (finish_member (p + 1 + size m) (words b r ++ ws) bs))
+        (over f (words b r ++ ws) (p + 1) (Member ∷ bs) due_member) refl (finish_member (p + 1 + size m) (words b r ++ ws) bs))
         (over-rest g ws (p + 1 + size m) bs) (omega (arith, length_depths (suc (length bs)) m)) (moved ws bs (omega arith))))
     over-rest (formed_functor {k = k} {ts = ts} h e f) ws p bs =
         from (continued (b.first_functor + k) (words* b ts ++ ws) p bs (Functor k (count ts)) (symbol_functor arities worded.proper k (omega (arith, worded.functors)) ∙ ap (Functor k) (sym e)) ∙ next-after (124 ∷ []) _ p _)
         (spelt (ap (λ l. 124 ∷ l) (append_assoc (functor_name k) (arguments ts) (125 ∷ [])))
-        (tail_over ws bs (over-arguments k f ws p (tail ∷ bs)) (omega (arith, length_argument_depths (suc (length bs)) ts))))
+        (tail_over ws bs (over-arguments k f ws p (Tail ∷ bs)) (omega (arith, length_argument_depths (suc (length bs)) ts))))
 
     -- a functor's word and its arguments
     over-arguments : (k : ℕ) {ts : Terms} → Formed* arities n ts → (ws : List ℕ) (p : ℕ) (bs : List Bracket)
@@ -184,16 +186,16 @@ module _ {b : Bounds} {arities : List ℕ} {n : ℕ} (worded : Worded b arities 
         rw append_assoc
         (spelt (ap (λ l. l ++ after_argument ts) (append_assoc (functor_name k) (40 ∷ []) (text t)) ∙ append_assoc (functor_name k) (40 ∷ text t) (after_argument ts))
         (chain
-        (chain (opening (functor_name k ++ (40 ∷ [])) (argument (count ts)) bs p (words b t ++ (words* b ts ++ ws)))
-        (over f (words* b ts ++ ws) (p + 1) (argument (count ts) ∷ bs) due_argument) refl refl)
+        (chain (opening (functor_name k ++ (40 ∷ [])) (Arguments (count ts)) bs p (words b t ++ (words* b ts ++ ws)))
+        (over f (words* b ts ++ ws) (p + 1) (Arguments (count ts) ∷ bs) due_argument) refl refl)
         (over-further g ws (p + 1 + size t) bs) (omega (arith, length_depths (suc (length bs)) t)) (moved ws bs (omega arith))))
 
     -- the arguments after one that is written
     over-further : {ts : Terms} → Formed* arities n ts → (ws : List ℕ) (p : ℕ) (bs : List Bracket)
-        → Part limit (finish b arities p (words* b ts ++ ws) (argument (count ts) ∷ bs)) p (further_depths (suc (length bs)) ts) (after_argument ts) (finish b arities (p + size* ts) ws bs)
+        → Part limit (finish b arities p (words* b ts ++ ws) (Arguments (count ts) ∷ bs)) p (further_depths (suc (length bs)) ts) (after_argument ts) (finish b arities (p + size* ts) ws bs)
     over-further formed_none ws p bs = on_to (moved ws bs (sym (add-zero p))) (finish-last p ws bs)
     over-further (formed_more {t = t} {ts = ts} f g) ws p bs =
         rw append_assoc
         (chain
-        (chain (finish_argument (count ts) p (words b t ++ (words* b ts ++ ws)) bs) (over f (words* b ts ++ ws) p (argument (count ts) ∷ bs) due_argument) (add-zero p) refl)
+        (chain (finish_argument (count ts) p (words b t ++ (words* b ts ++ ws)) bs) (over f (words* b ts ++ ws) p (Arguments (count ts) ∷ bs) due_argument) (add-zero p) refl)
         (over-further g ws (p + size t) bs) (omega (arith, length_depths (suc (length bs)) t)) (moved ws bs (omega arith)))

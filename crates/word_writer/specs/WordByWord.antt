@@ -1,20 +1,20 @@
 -- A term's text, word by word: what each word writes, and which brackets are open after it.
 -- `Tied` proves that this walk over the words of a term writes the text of the term.
-use Rattle.std.specs.Prelude.{ℕ, zero, suc, ◌+◌, List, [], ◌∷◌, ◌++◌, ltb, length, get_or, drop}
+use Rattle.std.specs.Prelude.{ℕ, zero, suc, ◌+◌, List, [], ◌∷◌, ◌++◌, ltb, length, get_or, drop, Option, Some, None, Result, Ok, Err}
 use Rattle.terms.specs.Bounds.{Bounds}
 use Rattle.terms.specs.Kind.{kind}
 use Rattle.terms.specs.declared.kind.Kind.{Kind}
 use Rattle.terms.specs.declared.kind.Kind.TheVariants as kinds
 use Rattle.text.specs.Text.{choose, unknown_name, functor_name}
-use Rattle.word_writer.specs.OpenBrackets.{Bracket, member, rest, tail, argument, closing, closed, Holds}
+use Rattle.word_writer.specs.OpenBrackets.{closing, closed, Holds}
+use Rattle.word_writer.specs.declared.bracket.Bracket.{Bracket}
+use Rattle.word_writer.specs.declared.bracket.Bracket.TheVariants.{Member, Rest, Tail, Arguments}
 use Rattle.word_writer.specs.Pen.{Wrote}
 use Rattle.word_writer.specs.declared.begin.Symbol.{Symbol}
 use Rattle.word_writer.specs.declared.begin.Symbol.TheVariants.{Empty, Adding, Unknown, Functor}
 use Rattle.word_writer.specs.declared.bracket.Pen.{Pen}
-use Rattle.word_writer.specs.declared.bracket.Step.{Step}
-use Rattle.word_writer.specs.declared.bracket.Step.TheVariants.{On, Deep}
 use Rattle.word_writer.specs.declared.put.Passage.{Passage}
-use Rattle.word_writer.specs.declared.put.Passage.TheVariants.{To, TooDeep}
+use Rattle.word_writer.specs.declared.put.TooDeep.{TooDeep}
 
 -- what a word stands for, a functor with the number of its arguments; in words that form terms, none stands for nothing
 unfoldable pub symbol_of : List ℕ → Kind → Symbol
@@ -43,24 +43,24 @@ opens limit bytes due bs = choose (ltb (length bs) limit) (λ _. writes bytes (d
 -- a word that begins a term
 unfoldable pub begins : ℕ → Symbol → List Bracket → Writes
 begins limit Empty bs = writes (123 ∷ 125 ∷ closing bs) (closed bs)
-begins limit Adding bs = opens limit (123 ∷ []) member bs
+begins limit Adding bs = opens limit (123 ∷ []) Member bs
 begins limit (Unknown i) bs = writes (unknown_name i ++ closing bs) (closed bs)
 begins limit (Functor k zero) bs = writes (functor_name k ++ closing bs) (closed bs)
-begins limit (Functor k (suc n)) bs = opens limit (functor_name k ++ (40 ∷ [])) (argument n) bs
+begins limit (Functor k (suc n)) bs = opens limit (functor_name k ++ (40 ∷ [])) (Arguments n) bs
 
 -- a word where the rest of a set is due: a further member, no tail, or the tail
 unfoldable pub continues : ℕ → Symbol → List Bracket → Writes
-continues limit Empty bs = writes (closing (tail ∷ bs)) (closed (tail ∷ bs))
-continues limit Adding bs = writes (44 ∷ []) (member ∷ bs)
-continues limit (Unknown i) bs = after (124 ∷ []) (begins limit (Unknown i) (tail ∷ bs))
-continues limit (Functor k n) bs = after (124 ∷ []) (begins limit (Functor k n) (tail ∷ bs))
+continues limit Empty bs = writes (closing (Tail ∷ bs)) (closed (Tail ∷ bs))
+continues limit Adding bs = writes (44 ∷ []) (Member ∷ bs)
+continues limit (Unknown i) bs = after (124 ∷ []) (begins limit (Unknown i) (Tail ∷ bs))
+continues limit (Functor k n) bs = after (124 ∷ []) (begins limit (Functor k n) (Tail ∷ bs))
 
 unfoldable pub word : ℕ → Symbol → List Bracket → Writes
 word limit s [] = begins limit s []
-word limit s (member ∷ bs) = begins limit s (member ∷ bs)
-word limit s (rest ∷ bs) = continues limit s bs
-word limit s (tail ∷ bs) = begins limit s (tail ∷ bs)
-word limit s (argument n ∷ bs) = begins limit s (argument n ∷ bs)
+word limit s (Member ∷ bs) = begins limit s (Member ∷ bs)
+word limit s (Rest ∷ bs) = continues limit s bs
+word limit s (Tail ∷ bs) = begins limit s (Tail ∷ bs)
+word limit s (Arguments n ∷ bs) = begins limit s (Arguments n ∷ bs)
 
 -- a walk ends before a word, with all its bytes written; or a word would open a bracket too many
 pub data Walk : Type 0 where
@@ -96,11 +96,11 @@ term_at b arities ws p = walk b arities p (drop p ws) []
 
 -- ---- what the code owes for each
 
-pub data Stepped (text₀ : List ℕ) (at : ℕ) : Writes → Step → List ℕ → List ℕ → Type 0 where
-  went_on : {bytes : List ℕ} {bs : List Bracket} {pen : Pen} {stack text : List ℕ} → Wrote text₀ at bytes text pen.at → Holds stack pen.depth bs
-      → Stepped text₀ at (writes bytes bs) (On pen) stack text
-  was_deep : {stack text : List ℕ} → Stepped text₀ at deep Deep stack text
+pub data Stepped (text₀ : List ℕ) (at : ℕ) : Writes → Option Pen → List Bracket → List ℕ → Type 0 where
+  went_on : {bytes : List ℕ} {bs : List Bracket} {pen : Pen} {stack : List Bracket} {text : List ℕ} → Wrote text₀ at bytes text pen.at → Holds stack pen.depth bs
+      → Stepped text₀ at (writes bytes bs) (Some pen) stack text
+  was_deep : {stack : List Bracket} {text : List ℕ} → Stepped text₀ at deep None stack text
 
-pub data Passed (text₀ : List ℕ) (at : ℕ) : Walk → Passage → List ℕ → Type 0 where
-  was_ended : {p at' : ℕ} {bytes text : List ℕ} → Wrote text₀ at bytes text at' → Passed text₀ at (ended p bytes) (To p at') text
-  was_too_deep : {p : ℕ} {text : List ℕ} → Passed text₀ at (too_deep p) (TooDeep p) text
+pub data Passed (text₀ : List ℕ) (at : ℕ) : Walk → Result Passage TooDeep → List ℕ → Type 0 where
+  was_ended : {passage : Passage} {bytes text : List ℕ} → Wrote text₀ at bytes text passage.at → Passed text₀ at (ended passage.word bytes) (Ok passage) text
+  was_too_deep : {too : TooDeep} {text : List ℕ} → Passed text₀ at (too_deep too.word) (Err too) text

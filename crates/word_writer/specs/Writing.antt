@@ -27,13 +27,8 @@ module _ {before : List ℕ} {at : ℕ} where
   unfolding counted
   wrote_byte byte h k = record { short = h; stored = refl; reached = omega arith }
 
-  pub wrote_past : (byte : ℕ) → length before ≤ most → length before ≤ at → at < most → Wrote before at (byte ∷ []) before (at + 1)
-  unfolding counted
-  wrote_past byte h k l = record { short = h; stored = sym (set_out before at byte k); reached = omega arith }
-
-  pub wrote_full : (byte : ℕ) → length before ≤ most → most ≤ at → at ≤ most → Wrote before at (byte ∷ []) before at
-  unfolding counted
-  wrote_full byte h k l = record { short = h; stored = sym (set_out before at byte (omega arith)); reached = omega arith }
+  pub wrote_past : (byte : ℕ) → length before ≤ most → length before ≤ at → Wrote before at (byte ∷ []) before (counted (at + 1))
+  wrote_past byte h k = record { short = h; stored = sym (set_out before at byte k); reached = refl }
 
 module _ {before bytes after : List ℕ} {at next : ℕ} (w : Wrote before at bytes after next) where
   pub length_wrote : length after ≡ length before

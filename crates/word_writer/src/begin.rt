@@ -1,26 +1,22 @@
 // The word that begins a term: what it stands for, and the brackets that it opens or closes.
 ghost use Rattle.std.specs.Prelude.{[], ◌∷◌, ◌≡◌, ◌-◌, ◌≤◌, ◌<◌, length};
 ghost use Rattle.terms.specs.Bounds.{edition_one};
-ghost use Rattle.word_writer.specs.OpenBrackets.{bracket, brackets, tail};
+ghost use Rattle.word_writer.specs.declared.bracket.Bracket.TheVariants.{Tail};
+ghost use Rattle.word_writer.specs.OpenBrackets.{brackets};
 ghost use Rattle.word_writer.specs.WordByWord.{symbol, after, opens, begins, Stepped};
 
-use crate::bracket::{ARGUMENT, MEMBER, Pen, Step, TAIL, close};
+use crate::bracket::{Bracket, Pen, close};
 use crate::put::{put_byte, put_bytes, put_name};
 use terms::kind::{Kind, kind_of};
 
 // What a word stands for: a functor with the number of its arguments.
+// Kept: an enum beside `Kind`, which has a functor without its arguments, and words that stand for nothing; a writer's words all stand for something.
 #[derive(Clone, Copy)]
 pub enum Symbol {
     Empty,
     Adding,
     Unknown(u16),
     Functor(u16, u8),
-}
-
-fn wide(number: u8) -> u16
-    ensures { result ≡ number }
-{
-    number as u16
 }
 
 pub fn symbol_of(arities: &[u8], word: u16) -> Symbol
@@ -40,66 +36,66 @@ pub fn symbol_of(arities: &[u8], word: u16) -> Symbol
     }
 }
 
-// One bracket more, in which `due` is due.
+// One bracket more, in which this is due; or none, where it would be one too many.
 fn open_bracket(
-    stack: &mut [u16],
-    depth: usize,
-    due: u16,
+    stack: &mut [Bracket],
+    due: Bracket,
+    pen: Pen,
     text: &mut [u8],
-    at: usize,
     byte: u8,
-) -> Step
-    requires { depth ≤ length stack.old }
-    ensures { Stepped text.old at (opens (length stack.old) (byte ∷ []) (bracket due) (brackets stack.old depth)) result stack.new text.new }
+) -> Option<Pen>
+    requires { pen.depth ≤ length stack.old }
+    ensures { Stepped text.old pen.at (opens (length stack.old) (byte ∷ []) due (brackets stack.old pen.depth)) result stack.new text.new }
 {
-    if depth < stack.len() {
-        let next = put_byte(text, at, byte);
-        stack[depth] = due;
-        return Step::On(Pen {
-            depth: depth + 1,
-            at: next,
-        });
+    if stack.len() <= pen.depth {
+        return None;
     }
-    Step::Deep
+    stack[pen.depth] = due;
+    Some(Pen {
+        depth: pen.depth + 1,
+        at: put_byte(text, pen.at, byte),
+    })
 }
 
-// A word that begins a term.
-pub fn begin(symbol: Symbol, stack: &mut [u16], depth: usize, text: &mut [u8], at: usize) -> Step
-    requires { depth ≤ length stack.old }
-    ensures { Stepped text.old at (begins (length stack.old) symbol (brackets stack.old depth)) result stack.new text.new }
+// A word that begins a term; or none, where it would open a bracket too many.
+pub fn begin(symbol: Symbol, stack: &mut [Bracket], pen: Pen, text: &mut [u8]) -> Option<Pen>
+    requires { pen.depth ≤ length stack.old }
+    ensures { Stepped text.old pen.at (begins (length stack.old) symbol (brackets stack.old pen.depth)) result stack.new text.new }
 {
+    let depth = pen.depth;
     match symbol {
         Symbol::Empty => {
-            let next = put_bytes(text, at, b"{}");
-            Step::On(close(stack, depth, text, next))
+            let at = put_bytes(text, pen.at, b"{}");
+            Some(close(stack, Pen { depth, at }, text))
         }
-        Symbol::Adding => open_bracket(stack, depth, MEMBER, text, at, b'{'),
+        Symbol::Adding => open_bracket(stack, Bracket::Member, pen, text, b'{'),
         Symbol::Unknown(i) => {
-            let next = put_name(text, at, b'x', i as u64);
-            Step::On(close(stack, depth, text, next))
+            let at = put_name(text, pen.at, b'x', i as u64);
+            Some(close(stack, Pen { depth, at }, text))
         }
         Symbol::Functor(k, n) => {
-            let next = put_name(text, at, b'f', k as u64);
+            let at = put_name(text, pen.at, b'f', k as u64);
             if n == 0 {
-                return Step::On(close(stack, depth, text, next));
+                return Some(close(stack, Pen { depth, at }, text));
             }
-            open_bracket(stack, depth, ARGUMENT + (wide(n) - 1), text, next, b'(')
+            open_bracket(
+                stack,
+                Bracket::Arguments(n - 1),
+                Pen { depth, at },
+                text,
+                b'(',
+            )
         }
     }
 }
 
 // The word that begins the tail of the innermost bracket's set.
-pub fn begin_tail(
-    symbol: Symbol,
-    stack: &mut [u16],
-    depth: usize,
-    text: &mut [u8],
-    at: usize,
-) -> Step
-    requires { (0 < depth) × (depth ≤ length stack.old) }
-    ensures { Stepped text.old at (after (124 ∷ []) (begins (length stack.old) symbol (tail ∷ brackets stack.old (depth - 1)))) result stack.new text.new }
+pub fn begin_tail(symbol: Symbol, stack: &mut [Bracket], pen: Pen, text: &mut [u8]) -> Option<Pen>
+    requires { (0 < pen.depth) × (pen.depth ≤ length stack.old) }
+    ensures { Stepped text.old pen.at (after (124 ∷ []) (begins (length stack.old) symbol (Tail ∷ brackets stack.old (pen.depth - 1)))) result stack.new text.new }
 {
-    let next = put_byte(text, at, b'|');
-    stack[depth - 1] = TAIL;
-    begin(symbol, stack, depth, text, next)
+    let depth = pen.depth;
+    let at = put_byte(text, pen.at, b'|');
+    stack[depth - 1] = Bracket::Tail;
+    begin(symbol, stack, Pen { depth, at }, text)
 }

@@ -5,15 +5,18 @@ ghost use Rattle.word_writer.specs.OpenBrackets.{brackets, closed, closing, Hold
 
 use crate::put::put_byte;
 
-// A set's member is being written; it is written, and the rest comes; the tail is being written; an argument is being written, and no other
-// comes after it (one more for each that does).
-pub const MEMBER: u16 = 0;
-
-pub const REST: u16 = 1;
-
-pub const TAIL: u16 = 2;
-
-pub const ARGUMENT: u16 = 3;
+// An open bracket, by what is due in it.
+#[derive(Clone, Copy)]
+pub enum Bracket {
+    // a set's member is being written
+    Member,
+    // a member is written, and the rest comes
+    Rest,
+    // a set's tail is being written
+    Tail,
+    // an argument is being written, and so many come after it
+    Arguments(u8),
+}
 
 // How many brackets are open, and the place of the next byte.
 #[derive(Clone, Copy)]
@@ -22,43 +25,33 @@ pub struct Pen {
     pub at: usize,
 }
 
-// A word was written, or would open a bracket too many.
-#[derive(Clone, Copy)]
-pub enum Step {
-    On(Pen),
-    Deep,
-}
-
 // A term is written: the brackets that it closes, and the comma before a further argument.
-pub fn close(stack: &mut [u16], depth: usize, text: &mut [u8], at: usize) -> Pen
-    requires { depth ≤ length stack.old }
-    ensures wrote { Wrote text.old at (closing (brackets stack.old depth)) text.new result.at }
-    ensures holds { Holds stack.new result.depth (closed (brackets stack.old depth)) }
+pub fn close(stack: &mut [Bracket], pen: Pen, text: &mut [u8]) -> Pen
+    requires { pen.depth ≤ length stack.old }
+    ensures wrote { Wrote text.old pen.at (closing (brackets stack.old pen.depth)) text.new result.at }
+    ensures holds { Holds stack.new result.depth (closed (brackets stack.old pen.depth)) }
 {
-    let mut depth = depth;
-    let mut at = at;
+    let mut at = pen.at;
+    let mut depth = pen.depth;
+    // Kept: counted down by hand. Over `(0..depth).rev()` each return would have to say one more than the counter, for as many brackets are open.
     while 0 < depth {
-        let due = stack[depth - 1];
-        if due == MEMBER {
-            stack[depth - 1] = REST;
-            return Pen { depth, at };
-        }
-        if due == REST {
-            return Pen { depth, at };
-        }
-        if due == TAIL {
-            at = put_byte(text, at, b'}');
-            depth -= 1;
-        } else {
-            if due == ARGUMENT {
-                at = put_byte(text, at, b')');
-                depth -= 1;
-            } else {
-                stack[depth - 1] = due - 1;
-                at = put_byte(text, at, b',');
+        match stack[depth - 1] {
+            Bracket::Member => {
+                stack[depth - 1] = Bracket::Rest;
                 return Pen { depth, at };
             }
+            Bracket::Rest => return Pen { depth, at },
+            Bracket::Tail => at = put_byte(text, at, b'}'),
+            Bracket::Arguments(more) => {
+                if 0 < more {
+                    stack[depth - 1] = Bracket::Arguments(more - 1);
+                    at = put_byte(text, at, b',');
+                    return Pen { depth, at };
+                }
+                at = put_byte(text, at, b')');
+            }
         }
+        depth -= 1;
     }
     Pen { depth, at }
 }

@@ -1,17 +1,35 @@
 // Bytes written one after the other: each function writes at a place of the buffer and answers the next place. What lies past the buffer's
 // end is counted and not written, so that one function both measures and writes.
-ghost use Rattle.std.specs.Prelude.{[], ◌∷◌};
+ghost use Rattle.std.specs.Prelude.{[], ◌∷◌, ◌≡◌};
+ghost use Rattle.terms.specs.declared.refusal.Cause.TheVariants.{Nesting};
 ghost use Rattle.text.specs.Text.{decimal};
 ghost use Rattle.word_writer.specs.Pen.{Wrote};
 
-// The largest number that is counted to.
-const MOST: usize = 18446744073709551615;
+use terms::refusal::{Cause, Refusal};
 
-// What writing words comes to: all before a word are written and the next byte's place; or the word that would open a bracket too many.
+// Where writing words came to: all words before this one are written, and this is the next byte's place.
 #[derive(Clone, Copy)]
-pub enum Passage {
-    To(usize, usize),
-    TooDeep(usize),
+pub struct Passage {
+    pub word: usize,
+    pub at: usize,
+}
+
+// The word that would open a bracket too many.
+#[derive(Clone, Copy)]
+pub struct TooDeep {
+    pub word: usize,
+}
+
+// Refusal 6 is told at that word.
+impl From<TooDeep> for Refusal {
+    ghost from_gives = { λ deep refusal. refusal ≡ record { cause = Nesting; place = deep.word } };
+
+    fn from(deep: TooDeep) -> Refusal {
+        Refusal {
+            cause: Cause::Nesting,
+            place: deep.word,
+        }
+    }
 }
 
 pub fn put_byte(text: &mut [u8], at: usize, byte: u8) -> usize
@@ -19,22 +37,16 @@ pub fn put_byte(text: &mut [u8], at: usize, byte: u8) -> usize
 {
     if at < text.len() {
         text[at] = byte;
-        return at + 1;
     }
-    if at < MOST {
-        return at + 1;
-    }
-    at
+    at.saturating_add(1)
 }
 
 pub fn put_bytes(text: &mut [u8], at: usize, bytes: &[u8]) -> usize
     ensures { Wrote text.old at bytes.now text.new result }
 {
     let mut next = at;
-    let mut i = 0;
-    while i < bytes.len() {
-        next = put_byte(text, next, bytes[i]);
-        i += 1;
+    for byte in bytes {
+        next = put_byte(text, next, *byte);
     }
     next
 }

@@ -11,7 +11,6 @@ use Rattle.terms.specs.Bounds.{Bounds}
 use Rattle.terms.specs.Laws.Flat.{length_words}
 use Rattle.terms.specs.Kind.{Worded}
 use Rattle.terms.specs.Lists.{All, both, cases}
-use Rattle.terms.specs.Lists as lists
 use Rattle.terms.specs.Term.{Term, words, size}
 use Rattle.terms.specs.Formed.{Formed, Equation, sides, row, Question}
 use Rattle.text.specs.Keys.{left_key, right_key}

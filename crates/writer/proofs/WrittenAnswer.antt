@@ -1,4 +1,5 @@
 -- From what writing comes to, to what is answered and held: 6, then 7, then the text from the buffer's start.
+use Rattle.std.specs.Prelude.{Err, Ok, Result}
 use Prim.Native.Nat.{ℕ, ◌≤◌, ◌<◌, min}
 use native.Mathlib.Nat.{zero-add}
 use native.Mathlib.Omega.{arith}
@@ -17,8 +18,6 @@ use Rattle.terms.specs.Formed.{Question}
 use Rattle.terms.specs.Reading.{question_of}
 use Rattle.terms.specs.declared.refusal.Cause.TheVariants.{Nesting, Buffer}
 use Rattle.terms.specs.declared.refusal.Refusal.{Refusal}
-use Rattle.terms.specs.declared.refusal.Checked.TheVariants.{Fine}
-use Rattle.terms.specs.declared.refusal.Checked.TheVariants as checked
 use Rattle.text.specs.Text.{question_text}
 use Rattle.word_writer.specs.Depths.{First, all_within, first_at}
 use Rattle.lines.specs.Lines.{question_lines}
@@ -26,19 +25,18 @@ use Rattle.word_writer.specs.Pen.{most, counted}
 use Rattle.word_writer.specs.WordByWord.{Walk, ended, Passed, was_ended, was_too_deep}
 use Rattle.writer.specs.Written.{fitted, nested, tested, held, too_deep_in, question_written, answered, measured}
 use Rattle.word_writer.specs.declared.put.Passage.{Passage}
-use Rattle.word_writer.specs.declared.put.Passage.TheVariants.{To, TooDeep}
-use Rattle.results.specs.declared.written.Written.{Written}
-use Rattle.results.specs.declared.written.Written.TheVariants.{Length, Refused}
+use Rattle.word_writer.specs.declared.put.TooDeep.{TooDeep}
 use Rattle.writer.proofs.QuestionWalk.{settled, question-over}
 
 -- measuring tells what is to be answered
-pub passed_measured : {text last : List ℕ} {x : Walk} {r : Passage} (room : ℕ) → Passed text 0 x r last → answered r room ≡ measured x room
+pub passed_measured : {text last : List ℕ} {x : Walk} {r : Result Passage TooDeep} (room : ℕ) → Passed text 0 x r last → answered r room ≡ measured x room
 unfolding measured
-passed_measured room (was_ended {p = p} {bytes = bytes} w) = ap (λ n. answered (To p n) room) (w.reached ∙ ap counted (zero-add (length bytes)))
+passed_measured room (was_ended {passage = p} {bytes = bytes} w) =
+    ap (λ n. answered (Ok (record { word = p.word; at = n })) room) (w.reached ∙ ap counted (zero-add (length bytes)))
 passed_measured room was_too_deep = refl
 
 -- a text that fits stands whole at the buffer's start
-passed_whole : {before after text : List ℕ} {n : ℕ} {r : Passage} → length text ≤ length before → Passed before 0 (ended n text) r after → after ≡ text ++ drop (length text) before
+passed_whole : {before after text : List ℕ} {n : ℕ} {r : Result Passage TooDeep} → length text ≤ length before → Passed before 0 (ended n text) r after → after ≡ text ++ drop (length text) before
 passed_whole {before} {text = text} h (was_ended w) = w.stored ∙ sets-eq text before 0 (omega arith) ∙ ap (λ k. text ++ drop k before) (zero-add (length text))
 
 module _ (first : First) (n : ℕ) (text : List ℕ) where
@@ -58,32 +56,32 @@ module _ (first : First) (n : ℕ) (text : List ℕ) where
           rw (same, t))
 
   -- a text that is answered to be written was written whole
-  pub written_held : {before after : List ℕ} {r : Passage} (m : ℕ) → nested first (length before) text ≡ Length m → Passed before 0 (settled first (ended n text)) r after
-      → after ≡ held (Length m) text before
+  pub written_held : {before after : List ℕ} {r : Result Passage TooDeep} (m : ℕ) → nested first (length before) text ≡ Ok m → Passed before 0 (settled first (ended n text)) r after
+      → after ≡ held (Ok m) text before
   unfolding settled nested fitted held
   written_held {before} {after} {r} m e passed = go first e passed
     where
-      go : (first : First) → nested first (length before) text ≡ Length m → Passed before 0 (settled first (ended n text)) r after → after ≡ held (Length m) text before
+      go : (first : First) → nested first (length before) text ≡ Ok m → Passed before 0 (settled first (ended n text)) r after → after ≡ held (Ok m) text before
       go (first_at p) e q = let z : ◌≡◌ {A = ℕ} 0 1 = cc in absurd (omega arith)
       go all_within e q =
           cases (ltb (length before) (length text))
-          (λ t. let f : Refused (record { cause = Buffer; place = counted (length text) }) ≡ Length m = rw t at e in let z : ◌≡◌ {A = ℕ} 0 1 = cc in absurd (omega arith))
+          (λ t. let f : Err (record { cause = Buffer; place = counted (length text) }) ≡ Ok m = rw t at e in let z : ◌≡◌ {A = ℕ} 0 1 = cc in absurd (omega arith))
           (λ t. passed_whole (ltb-false (length before) (length text) t) q)
 
 -- ---- the arms of `answer`
 
-module _ (passage : Passage) (room : ℕ) where
-  pub answered_short : (p length : ℕ) → passage ≡ To p length → room < length → Refused (record { cause = Buffer; place = length }) ≡ answered passage room
+module _ (passage : Result Passage TooDeep) (room : ℕ) where
+  pub answered_short : {p : Passage} → passage ≡ Ok p → room < p.at → Err (record { cause = Buffer; place = p.at }) ≡ answered passage room
   unfolding answered
-  answered_short p length e h = rw (e, lt-ltb room length h)
+  answered_short {p} e h = rw (e, lt-ltb room p.at h)
 
-  pub answered_long : (p length : ℕ) → passage ≡ To p length → length ≤ room → Length length ≡ answered passage room
+  pub answered_long : {p : Passage} → passage ≡ Ok p → p.at ≤ room → Ok p.at ≡ answered passage room
   unfolding answered
-  answered_long p length e h = rw (e, le-ltb room length h)
+  answered_long {p} e h = rw (e, le-ltb room p.at h)
 
-  pub answered-deep : (p : ℕ) → passage ≡ TooDeep p → Refused (record { cause = Nesting; place = p }) ≡ answered passage room
+  pub answered-deep : {d : TooDeep} → passage ≡ Err d → Err (record { cause = Nesting; place = d.word }) ≡ answered passage room
   unfolding answered
-  answered-deep p e = rw e
+  answered-deep e = rw e
 
 -- ---- questions
 
@@ -92,7 +90,7 @@ module _ (unknowns : ℕ) (arities : List ℕ) (equations : ℕ) (ws : List ℕ)
   question = question_of edition_one unknowns arities ws
 
   -- the lines of checked words are the text of the question
-  question_lines_are : check_question edition_one unknowns arities equations ws ≡ Fine
+  question_lines_are : check_question edition_one unknowns arities equations ws ≡ Ok tt
       → question_lines edition_one unknowns arities equations ws ≡ settled (too_deep_in edition_one question) (ended (length ws) (question_text question))
   unfolding question_of
   question_lines_are fine =
@@ -106,12 +104,12 @@ module _ (unknowns : ℕ) (arities : List ℕ) (equations : ℕ) (ws : List ℕ)
       rw (asked.count, asked.worded) at over
 
   module _ (before : List ℕ) (short : length before < most) where
-    pub refused_unchecked : (refusal : Refusal) → check_question edition_one unknowns arities equations ws ≡ checked.Refused refusal
-        → (Refused refusal ≡ question_written edition_one unknowns arities equations ws (length before)) × (before ≡ held (Refused refusal) (question_text question) before)
+    pub refused_unchecked : (refusal : Refusal) → check_question edition_one unknowns arities equations ws ≡ Err refusal
+        → (Err refusal ≡ question_written edition_one unknowns arities equations ws (length before)) × (before ≡ held (Err refusal) (question_text question) before)
     unfolding question_written tested held
     refused_unchecked refusal e = (rw e, refl)
 
-    module _ (fine : check_question edition_one unknowns arities equations ws ≡ Fine) {r : Written} (is : r ≡ measured (question_lines edition_one unknowns arities equations ws) (length before)) where
+    module _ (fine : check_question edition_one unknowns arities equations ws ≡ Ok tt) {r : Result ℕ Refusal} (is : r ≡ measured (question_lines edition_one unknowns arities equations ws) (length before)) where
       right : r ≡ nested (too_deep_in edition_one question) (length before) (question_text question)
       right = is ∙ ap (λ x. measured x (length before)) (question_lines_are fine) ∙ measured-nested (too_deep_in edition_one question) (length ws) (question_text question) (length before) short
 
@@ -119,13 +117,13 @@ module _ (unknowns : ℕ) (arities : List ℕ) (equations : ℕ) (ws : List ℕ)
       unfolding question_written tested
       answer-right = right ∙ rw fine
 
-      pub refused-measured : (refusal : Refusal) → r ≡ Refused refusal
-          → (Refused refusal ≡ question_written edition_one unknowns arities equations ws (length before)) × (before ≡ held (Refused refusal) (question_text question) before)
+      pub refused-measured : (refusal : Refusal) → r ≡ Err refusal
+          → (Err refusal ≡ question_written edition_one unknowns arities equations ws (length before)) × (before ≡ held (Err refusal) (question_text question) before)
       unfolding held
       refused-measured refusal e = (sym e ∙ answer-right, refl)
 
-      pub written-measured : (m : ℕ) → r ≡ Length m → {s : Passage} {after : List ℕ} → Passed before 0 (question_lines edition_one unknowns arities equations ws) s after
-          → (Length m ≡ question_written edition_one unknowns arities equations ws (length before)) × (after ≡ held (Length m) (question_text question) before)
+      pub written-measured : (m : ℕ) → r ≡ Ok m → {s : Result Passage TooDeep} {after : List ℕ} → Passed before 0 (question_lines edition_one unknowns arities equations ws) s after
+          → (Ok m ≡ question_written edition_one unknowns arities equations ws (length before)) × (after ≡ held (Ok m) (question_text question) before)
       written-measured m e {s} {after} p = (
         sym e ∙ answer-right,
         written_held (too_deep_in edition_one question) (length ws) (question_text question) m (sym right ∙ e) (rw (question_lines_are fine) at p),

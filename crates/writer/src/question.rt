@@ -9,11 +9,16 @@ ghost use Rattle.writer.specs.Written.{held, question_written, measured};
 use crate::written::answer;
 use lent_words::check_question;
 use lines::question_lines::write_lines;
-use results::written::Written;
-use terms::refusal::Checked;
+use terms::refusal::Refusal;
 
 // What is to be answered for checked words where so many bytes are lent: the text is written to a buffer that holds nothing.
-fn measure(unknowns: usize, arities: &[u8], equations: usize, words: &[u16], room: usize) -> Written
+fn measure(
+    unknowns: usize,
+    arities: &[u8],
+    equations: usize,
+    words: &[u16],
+    room: usize,
+) -> Result<usize, Refusal>
     ensures { result ≡ measured (question_lines edition_one unknowns arities.now equations words.now) room }
 {
     let mut nothing = [0u8; 0];
@@ -31,20 +36,12 @@ pub fn write_question(
     equations: usize,
     words: &[u16],
     text: &mut [u8],
-) -> Written
+) -> Result<usize, Refusal>
     ensures value { result ≡ question_written edition_one unknowns arities.now equations words.now (length text.old) }
     ensures text_after { text.new ≡ held result (question_text (question_of edition_one unknowns arities.now words.now)) text.old }
 {
-    match check_question(unknowns, arities, equations, words) {
-        Checked::Refused(refusal) => Written::Refused(refusal),
-        Checked::Fine => {
-            match measure(unknowns, arities, equations, words, text.len()) {
-                Written::Refused(refusal) => Written::Refused(refusal),
-                Written::Length(length) => {
-                    write_lines(unknowns, arities, equations, words, text);
-                    Written::Length(length)
-                }
-            }
-        }
-    }
+    check_question(unknowns, arities, equations, words)?;
+    let length = measure(unknowns, arities, equations, words, text.len())?;
+    let _ = write_lines(unknowns, arities, equations, words, text);
+    Ok(length)
 }

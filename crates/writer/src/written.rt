@@ -2,27 +2,19 @@
 ghost use Rattle.std.specs.Prelude.{◌≡◌};
 ghost use Rattle.writer.specs.Written.{answered};
 
-use results::written::Written;
 use terms::refusal::{Cause, Refusal};
-use word_writer::put::Passage;
+use word_writer::put::{Passage, TooDeep};
 
 // What is answered where so many bytes are lent, by what writing the text comes to.
-pub fn answer(passage: Passage, room: usize) -> Written
+pub fn answer(passage: Result<Passage, TooDeep>, room: usize) -> Result<usize, Refusal>
     ensures { result ≡ answered passage room }
 {
-    match passage {
-        Passage::To(_, length) => {
-            if room < length {
-                return Written::Refused(Refusal {
-                    cause: Cause::Buffer,
-                    place: length,
-                });
-            }
-            Written::Length(length)
-        }
-        Passage::TooDeep(place) => Written::Refused(Refusal {
-            cause: Cause::Nesting,
-            place,
-        }),
+    let length = passage?.at;
+    if room < length {
+        return Err(Refusal {
+            cause: Cause::Buffer,
+            place: length,
+        });
     }
+    Ok(length)
 }

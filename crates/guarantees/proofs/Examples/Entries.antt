@@ -1,5 +1,5 @@
 -- The lines of `Promised` about texts, ground terms, refusals and numbers, 5 to 9, applied to specimens.
-use Rattle.std.specs.Prelude.{ℕ, ◌≤◌, ◌<◌, ◌≡◌, refl, List, [], ◌∷◌, ◌++◌, ◌⊎◌, length, take, replicate, Err}
+use Rattle.std.specs.Prelude.{ℕ, ◌≤◌, ◌<◌, ◌≡◌, refl, List, [], ◌∷◌, ◌++◌, ◌⊎◌, length, take, replicate, Err, Ok, Some}
 use Rattle.std.proofs.Common.{arith}
 use Rattle.terms.specs.Bounds.{edition_one, BYTES, NESTING}
 use Rattle.terms.specs.Lists.{All, all}
@@ -14,7 +14,6 @@ use Rattle.terms.specs.declared.refusal.Cause.TheVariants.{Byte, Limit, Nesting,
 use Rattle.laws.specs.Laws.{◌≈◌}
 use Rattle.laws.specs.Values.{value, in_order, Solves, holds_test, solves_test}
 use Rattle.search.specs.declared.ends.End.TheVariants.{Space}
-use Rattle.search.specs.declared.ends.Listed.TheVariants.{As}
 use Rattle.search.specs.Ends.{end_of}
 use Rattle.text.specs.AnswerText.{binding_lines, answer_lines, list_text}
 use Rattle.text.specs.Text.{digits, decimal, further_numbers, numbers, unknown_name, functor_name, text, line, equation_lines, question_text}
@@ -30,7 +29,6 @@ use Rattle.word_writer.specs.Depths.{depths, row_depths, all_within, found, firs
 use Rattle.lines.specs.ListLines.{binding_depths, list_depths}
 use Rattle.equality.specs.Answering.{equality_after, equal_answer, solving_after, solves_answer}
 use Rattle.writer.specs.Written.{held, fitted, nested, tested, too_deep_in, too_deep_in_list, question_written, check_list, text_of_list, list_written}
-use Rattle.results.specs.declared.written.Written.TheVariants as writing
 use Rattle.results.specs.Result.{refuses, result}
 use Rattle.guarantees.specs.Calls.{Posed, asked, in_words, Lending, in_room, run_told, answers_after, question_told, question_after, list_told, list_after, text_told, arities_after, words_after}
 use Rattle.guarantees.specs.Notions.{largest, NestsWithin, Writable, Writes, Reads, question_in, Compared, Tried, OneOf}
@@ -45,7 +43,7 @@ writing_key = tt
 -- ---- 5
 
 -- the list of x0 = {a|x0} takes 74 bytes
-ten_bytes : list_told (0 ∷ []) 0 3 1 (listed outcome.answers) (replicate 10 0) ≡ writing.Refused (record { cause = Buffer; place = 74 })
+ten_bytes : list_told (0 ∷ []) 0 3 1 (listed outcome.answers) (replicate 10 0) ≡ Err (record { cause = Buffer; place = 74 })
 unfolding calling writing_key
 ten_bytes = refl
 
@@ -58,7 +56,7 @@ list-taken = Promised.list-taken question sufficient outcome gave (replicate 10 
 abbrev page : List ℕ
 page = replicate 70 0
 
-wrote : question_told question page ≡ writing.Length 65
+wrote : question_told question page ≡ Ok 65
 unfolding calling writing_key
 wrote = refl
 
@@ -95,7 +93,7 @@ written-again = Promised.read-then-written whole (9 ∷ []) (replicate 4 9) 1 1 
 abbrev deep : Posed
 deep = record { unknowns = 0; arities = []; equations = 1; words = replicate 201 1 ++ replicate 203 0 }
 
-too_deep : question_told deep page ≡ writing.Refused (record { cause = Nesting; place = 200 })
+too_deep : question_told deep page ≡ Err (record { cause = Nesting; place = 200 })
 unfolding calling writing_key
 too_deep = refl
 
@@ -155,7 +153,7 @@ text_number = Promised.text_numbers [] (9 ∷ []) (9 ∷ []) _ no_text
 abbrev wordless : Posed
 wordless = record { unknowns = 1; arities = 0 ∷ []; equations = 1; words = [] }
 
-no_words : question_told wordless page ≡ writing.Refused (record { cause = WordsStop; place = 0 })
+no_words : question_told wordless page ≡ Err (record { cause = WordsStop; place = 0 })
 unfolding calling writing_key
 no_words = refl
 
@@ -166,7 +164,7 @@ question-number : OneOf (3 ∷ 8 ∷ 6 ∷ 7 ∷ []) 8
 question-number = Promised.question-numbers wordless page _ no_words
 
 -- an end that there isn't
-no_end : list_told (0 ∷ []) 1 3 0 [] page ≡ writing.Refused (record { cause = Limit; place = 0 })
+no_end : list_told (0 ∷ []) 1 3 0 [] page ≡ Err (record { cause = Limit; place = 0 })
 unfolding writing_key
 no_end = refl
 
@@ -204,5 +202,5 @@ run_number = Promised.run_numbers question cramped _ no_room
 space_number : OneOf (0 ∷ 20 ∷ 21 ∷ 22 ∷ 23 ∷ []) 23
 space_number = Promised.end-numbers pair one_answer first_answer gave_one
 
-space_told : end_of 23 ≡ As Space
+space_told : end_of 23 ≡ Some Space
 space_told = Promised.end_by_number Space

@@ -1,6 +1,7 @@
 -- What `equal` and `solves` answer, by the laws: the test of what the words hold agrees with the least equality, and every answer but a refusal says that the
 -- words hold what it speaks of.
 use Rattle.std.specs.Prelude.{ℕ, ◌≡◌, refl, Bool, true, false, Ok, Err, List, [], ◌∷◌, ◌↔◌, length, drop}
+use Rattle.checks.specs.Check.{Checked}
 use Rattle.std.proofs.Common.{sym, arith}
 use Rattle.std.proofs.lemmas.Bool.{false≢true}
 use Rattle.terms.specs.Bounds.{edition_one, edition_one_proper}
@@ -8,8 +9,6 @@ use Rattle.terms.specs.Term.{Term}
 use Rattle.terms.specs.Formed.{Equation}
 use Rattle.checks.specs.Lent.{Table, Asked, check_row_ground, ground_check_row, ground_back}
 use Rattle.terms.specs.Reading.{read, top, question_of}
-use Rattle.terms.specs.declared.refusal.Checked.{Checked}
-use Rattle.terms.specs.declared.refusal.Checked.TheVariants as checked
 use Rattle.laws.specs.Laws.{◌≈◌}
 use Rattle.laws.specs.Equal.{equal}
 use Rattle.laws.proofs.Agree.{agree}
@@ -28,12 +27,12 @@ fails_exactly false e = (λ n. refl, λ f h. false≢true (e.0 h))
 
 -- ---- two ground terms
 
-compared_by : (c : Checked) (test b : Bool) → equality_after c test ≡ Ok b → (c ≡ checked.Fine) × (test ≡ b)
+compared_by : (c : Checked) (test b : Bool) → equality_after c test ≡ Ok b → (c ≡ Ok tt) × (test ≡ b)
 unfolding equality_after
-compared_by (checked.Refused r) test b e = impossible (cc)
-compared_by checked.Fine test b e = (refl, cc)
+compared_by (Err r) test b e = impossible (cc)
+compared_by (Ok _) test b e = (refl, cc)
 
-by_test : (b : Bool) → equality_after checked.Fine b ≡ Ok b
+by_test : (b : Bool) → equality_after (Ok tt) b ≡ Ok b
 unfolding equality_after
 by_test b = refl
 
@@ -70,13 +69,13 @@ differ_exactly = compared_exactly false (λ t u. fails_exactly (equal t u) (agre
 
 -- ---- values for a question
 
-tried_by : (c d : Checked) (test b : Bool) → solving_after c d test ≡ Ok b → (c ≡ checked.Fine) × (d ≡ checked.Fine) × (test ≡ b)
+tried_by : (c d : Checked) (test b : Bool) → solving_after c d test ≡ Ok b → (c ≡ Ok tt) × (d ≡ Ok tt) × (test ≡ b)
 unfolding solving_after
-tried_by (checked.Refused r) d test b e = impossible (cc)
-tried_by checked.Fine (checked.Refused r) test b e = impossible (cc)
-tried_by checked.Fine checked.Fine test b e = (refl, refl, cc)
+tried_by (Err r) d test b e = impossible (cc)
+tried_by (Ok _) (Err r) test b e = impossible (cc)
+tried_by (Ok _) (Ok _) test b e = (refl, refl, cc)
 
-by_trial : (b : Bool) → solving_after checked.Fine checked.Fine b ≡ Ok b
+by_trial : (b : Bool) → solving_after (Ok tt) (Ok tt) b ≡ Ok b
 unfolding solving_after
 by_trial b = refl
 

@@ -1,6 +1,6 @@
 -- The list of a granted run: it fits the words lent for it, no more nodes are visited than steps are lent, the buffer begins with it and is as it was after
 -- it, it is read back from its words and their count, and `write_answers` finds nothing in it to refuse but its nesting.
-use Rattle.std.specs.Prelude.{ℕ, ◌≤◌, ◌≡◌, refl, List, [], ◌∷◌, ◌++◌, map, ◌⊎◌, eqb, ltb, length, drop}
+use Rattle.std.specs.Prelude.{ℕ, ◌≤◌, ◌≡◌, refl, List, [], ◌∷◌, ◌++◌, map, ◌⊎◌, eqb, ltb, length, drop, Err, Ok, Some}
 use Rattle.std.proofs.Common.{ap, ap₂, sym, ◌∙◌, inl, inr, arith, zero-add, length-append}
 use Rattle.std.proofs.lemmas.List.{length-map}
 use borrow.Author.Tests.{eqb-false, le-ltb}
@@ -16,10 +16,8 @@ use Rattle.terms.specs.Reading.{question_of}
 use Rattle.terms.specs.Refusal.{number}
 use Rattle.terms.specs.declared.refusal.Cause.TheVariants.{Nesting, Buffer}
 use Rattle.terms.specs.declared.refusal.Refusal.{Refusal}
-use Rattle.terms.specs.declared.refusal.Checked.TheVariants.{Fine}
 use Rattle.search.specs.declared.ends.End.{End}
 use Rattle.search.specs.declared.ends.End.TheVariants.{Done, Steps, Depth, Names, Size, Space}
-use Rattle.search.specs.declared.ends.Listed.TheVariants.{As}
 use Rattle.search.specs.Ends.{end_number, end_of}
 use Rattle.search.specs.RunLimits.{most_steps}
 use Rattle.search.specs.Run.{Loan, Outcome, Visit, Verdict, stops, overflows, goes_on, found, found_size, ends, verdict, spend, after, scan, ran}
@@ -29,7 +27,6 @@ use Rattle.search.proofs.Verdicts.{judged}
 use Rattle.word_writer.specs.Pen.{counted as as_counted}
 use Rattle.word_writer.specs.Depths.{First, all_within, first_at}
 use Rattle.writer.specs.Written.{check_list, tested, nested, fitted, list_written}
-use Rattle.results.specs.declared.written.Written.TheVariants.{Length, Refused}
 use Rattle.results.specs.Result.{gives, words_told}
 use Rattle.guarantees.specs.Calls.{Posed, Lending, loan_of, run_told, answers_after, used, list_told}
 use Rattle.guarantees.specs.Notions.{Granted}
@@ -95,7 +92,7 @@ list-answered bs = record {
 
 -- ---- what is refused once the words are fine
 
-pub end_by_number : (e : End) → end_of (end_number e) ≡ As e
+pub end_by_number : (e : End) → end_of (end_number e) ≡ Some e
 end_by_number Done = refl
 end_by_number Steps = refl
 end_by_number Depth = refl
@@ -103,15 +100,15 @@ end_by_number Names = refl
 end_by_number Size = refl
 end_by_number Space = refl
 
-pub past_the_check : (deep : First) (room : ℕ) (text : List ℕ) {r : Refusal} → nested deep room text ≡ Refused r → (number r.cause ≡ 6) ⊎ (number r.cause ≡ 7)
+pub past_the_check : (deep : First) (room : ℕ) (text : List ℕ) {r : Refusal} → nested deep room text ≡ Err r → (number r.cause ≡ 6) ⊎ (number r.cause ≡ 7)
 unfolding nested fitted
 past_the_check (first_at p) room text {r} e = let z : record { cause = Nesting; place = p } ≡ r = cc in inl (rw (← z))
 past_the_check all_within room text {r} e =
     cases (ltb room (length text))
-    (λ t. let x : Refused (record { cause = Buffer; place = as_counted (length text) }) ≡ Refused r = rw t at e in
+    (λ t. let x : Err (record { cause = Buffer; place = as_counted (length text) }) ≡ Err r = rw t at e in
     let z : record { cause = Buffer; place = as_counted (length text) } ≡ r = cc in
     inr (rw (← z)))
-    (λ f. let x : Length (length text) ≡ Refused r = rw f at e in impossible (cc))
+    (λ f. let x : Ok (length text) ≡ Err r = rw f at e in impossible (cc))
 
 module _ (q : Posed) (l : Lending) (o : Outcome) (gave : run_told q l ≡ gives o) where
   granted : Granted q l o
@@ -142,13 +139,13 @@ module _ (q : Posed) (l : Lending) (o : Outcome) (gave : run_told q l ≡ gives 
   pub list-read-back : map (answer_words edition_one) (answers_of edition_one q.arities (length o.answers) (listed o.answers)) ≡ o.answers
   list-read-back = rw (answers_back edition_one_proper table (list-answered bindings)) bindings.words
 
-  pub list_fine : check_list edition_one (end_of (end_number o.end)) o.visited q.arities (length o.answers) (listed o.answers) ≡ Fine
+  pub list_fine : check_list edition_one (end_of (end_number o.end)) o.visited q.arities (length o.answers) (listed o.answers) ≡ Ok tt
   unfolding check_list above
   list_fine =
       rw (end_by_number o.end, le-ltb most_steps o.visited (omega (arith, steps_suffice, granted.steps)))
       (answered-check_answers edition_one_proper table (list-answered bindings))
 
-  pub list-taken : (buffer : List ℕ) (r : Refusal) → list_told q.arities (end_number o.end) o.visited (length o.answers) (listed o.answers) buffer ≡ Refused r
+  pub list-taken : (buffer : List ℕ) (r : Refusal) → list_told q.arities (end_number o.end) o.visited (length o.answers) (listed o.answers) buffer ≡ Err r
       → (number r.cause ≡ 6) ⊎ (number r.cause ≡ 7)
   unfolding list_written tested
   list-taken buffer r e = past_the_check _ (length buffer) _ (rw list_fine at e)

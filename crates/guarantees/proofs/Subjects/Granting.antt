@@ -1,17 +1,15 @@
 -- When a run is granted, and what it then is: the tests of its limits, its question and its room, and the search. What a call gives back is its outcome's.
-use Rattle.std.specs.Prelude.{ℕ, ◌+◌, ◌*◌, ◌≤◌, ◌≡◌, refl, cond, List, ◌↔◌, ltb, length}
+use Rattle.std.specs.Prelude.{ℕ, ◌+◌, ◌*◌, ◌≤◌, ◌≡◌, refl, cond, List, ◌↔◌, ltb, length, Err, Ok}
 use Rattle.std.proofs.Common.{ap, arith, ltb-false, le-ltb, Ok}
 use Rattle.room.specs.Layout.{HEADER, SPARE_ROWS}
 use Rattle.terms.specs.Bounds.{edition_one, edition_one_proper}
 use Rattle.terms.specs.Lists.{cases}
 use Rattle.terms.specs.Formed.{Question}
-use Rattle.checks.specs.Check.{check_question, after_check}
+use Rattle.checks.specs.Check.{check_question, after_check, Checked}
 use Rattle.checks.specs.Lent.{Asked, check_question-asked, good_check_question}
 use Rattle.terms.specs.Reading.{question_of}
 use Rattle.terms.specs.declared.refusal.Cause.TheVariants.{Buffer}
 use Rattle.terms.specs.declared.refusal.Refusal.{Refusal}
-use Rattle.terms.specs.declared.refusal.Checked.{Checked}
-use Rattle.terms.specs.declared.refusal.Checked.TheVariants.{Fine, Refused}
 use Rattle.search.specs.declared.ends.End.{End}
 use Rattle.search.specs.declared.ends.End.TheVariants.{Done, Steps, Depth, Names, Size, Space}
 use Rattle.search.specs.Ends.{end_number}
@@ -25,10 +23,10 @@ use Rattle.guarantees.specs.Notions.{Granted}
 use Rattle.guarantees.proofs.Subjects.{impossible}
 
 -- words pass the check exactly if they ask a good question
-asked_fine : {e : ℕ} {ws : List ℕ} (g : Question) → Asked edition_one e ws g → check_question edition_one g.unknowns g.arities e ws ≡ Fine
+asked_fine : {e : ℕ} {ws : List ℕ} (g : Question) → Asked edition_one e ws g → check_question edition_one g.unknowns g.arities e ws ≡ Ok tt
 asked_fine g a = rw (a.count, a.worded) at (good_check_question edition_one_proper g a.good)
 
-pub asked_exactly : (q : Posed) → (check_question edition_one q.unknowns q.arities q.equations q.words ≡ Fine) ↔ Asked edition_one q.equations q.words (asked q)
+pub asked_exactly : (q : Posed) → (check_question edition_one q.unknowns q.arities q.equations q.words ≡ Ok tt) ↔ Asked edition_one q.equations q.words (asked q)
 unfolding question_of
 asked_exactly q = (check_question-asked edition_one_proper q.unknowns q.arities q.equations q.words, asked_fine (asked q))
 
@@ -53,8 +51,8 @@ granted q l o e =
 
     asking : l.steps ≤ most_steps → l.depth ≤ most_depth → l.size ≤ most_size → (c : Checked) → check_question edition_one q.unknowns q.arities q.equations q.words ≡ c
         → after_check c refuses tested ≡ gives o → Granted q l o
-    asking s d z (Refused r) c y = refused-not-given y
-    asking s d z Fine c y =
+    asking s d z (Err r) c y = refused-not-given y
+    asking s d z (Ok _) c y =
         cases (ltb (length l.room) ((l.depth + SPARE_ROWS) * (l.size + HEADER))) (λ t. refused-not-given (rw t at y))
         (λ f. let x : found ≡ gives o = rw f at y in record { steps = s; depth = d; size = z; good = (asked_exactly q).0 c; room = ltb-false _ _ f; outcome = cc })
 

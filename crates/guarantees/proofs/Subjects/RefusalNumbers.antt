@@ -1,25 +1,19 @@
 -- Which numbers of SPECIFICATION 6.2 and 7 an entry may refuse with, and a run may end with.
-use Rattle.std.specs.Prelude.{ℕ, suc, zero, ◌+◌, ◌≡◌, refl, Bool, true, false, cond, Err, List, [], ◌∷◌, ◌++◌, ◌⊎◌, eqb, leb, ltb, length, Result, Ok}
+use Rattle.std.specs.Prelude.{ℕ, suc, zero, ◌+◌, ◌≡◌, refl, Bool, true, false, cond, Err, List, [], ◌∷◌, ◌++◌, ◌⊎◌, eqb, leb, ltb, length, Result, Ok, None, Option, Some}
 use Rattle.std.proofs.lemmas.Bool.{false≢true}
 use Rattle.std.proofs.Common.{inl, inr, Option, Some, None}
 use Rattle.terms.specs.Bounds.{edition_one}
 use Rattle.terms.specs.Lists.{here, there, cases, Any-left}
 use Rattle.terms.specs.Kind.{kind}
-use Rattle.checks.specs.Check.{follows, follow, after, checked, above, check_terms, check_question, check_row, check_answers, after_check}
+use Rattle.checks.specs.Check.{follows, follow, after, checked, above, check_terms, check_question, check_row, check_answers, after_check, Checked, Follow}
 use Rattle.terms.specs.Refusal.{number}
-use Rattle.checks.specs.declared.check.Follow.{Follow}
-use Rattle.checks.specs.declared.check.Follow.TheVariants.{Terms, Cannot}
 use Rattle.terms.specs.declared.kind.Kind.{Kind}
 use Rattle.terms.specs.declared.kind.Kind.TheVariants.{Empty, Member, Unknown, Functor, Nothing}
 use Rattle.terms.specs.declared.refusal.Cause.{Cause}
 use Rattle.terms.specs.declared.refusal.Cause.TheVariants.{Byte, Number, Limit, Undeclared, Arguments, Nesting, Buffer, WordsStop, WordsMeaningless, WordsUndeclared, WordsLeft}
 use Rattle.terms.specs.declared.refusal.Refusal.{Refusal}
-use Rattle.terms.specs.declared.refusal.Checked.{Checked}
-use Rattle.terms.specs.declared.refusal.Checked.TheVariants.{Fine, Refused}
 use Rattle.search.specs.declared.ends.End.{End}
 use Rattle.search.specs.declared.ends.End.TheVariants.{Done, Steps, Depth, Names, Size, Space}
-use Rattle.search.specs.declared.ends.Listed.{Listed}
-use Rattle.search.specs.declared.ends.Listed.TheVariants.{As, Nowhere}
 use Rattle.search.specs.declared.limits.Limits.{Limits}
 use Rattle.search.specs.Ends.{end_number, end_of}
 use Rattle.search.specs.RunLimits.{lent}
@@ -34,7 +28,6 @@ use Rattle.reader.specs.LentBuffers as lent
 use Rattle.question_reader.specs.WholePlaces.{question_placed}
 use Rattle.word_writer.specs.Depths.{First}
 use Rattle.writer.specs.Written.{tested, question_written, list_written, check_list}
-use Rattle.results.specs.declared.written.Written.TheVariants as writing
 use Rattle.equality.specs.Answering.{equality_after, equal_answer, solving_after, solves_answer}
 use Rattle.results.specs.Loans.{needed, loan}
 use Rattle.results.specs.Result.{Told, refuses, gives, told, told_within}
@@ -48,12 +41,12 @@ use Rattle.guarantees.proofs.Subjects.GrantedList.{past_the_check}
 
 -- a check that is fine, or a refusal of one of these numbers
 pub data Numbered (ns : List ℕ) : Checked → Type 0 where
-  passed : Numbered ns Fine
-  told_as : {r : Refusal} → OneOf ns (number r.cause) → Numbered ns (Refused r)
+  passed : Numbered ns (Ok tt)
+  told_as : {r : Refusal} → OneOf ns (number r.cause) → Numbered ns (Err r)
 
 data Faults : Follow → Type 0 where
-  no_fault : {n : ℕ} → Faults (Terms n)
-  fault : {cause : Cause} → number cause ≡ 8 → Faults (Cannot cause)
+  no_fault : {n : ℕ} → Faults (Ok n)
+  fault : {cause : Cause} → number cause ≡ 8 → Faults (Err cause)
 
 follow_faults : (arities : List ℕ) (n : ℕ) (k : Kind) → Faults (follows arities n k)
 unfolding follows
@@ -100,10 +93,10 @@ row_numbered : (arities : List ℕ) (terms : ℕ) (ws : List ℕ) → Numbered (
 unfolding check_row
 row_numbered arities terms ws = above_numbered _ _ (terms_numbered arities 0 terms ws)
 
-list_numbered : (end : Listed) (visited : ℕ) (arities : List ℕ) (answers : ℕ) (ws : List ℕ) → Numbered (3 ∷ 8 ∷ []) (check_list edition_one end visited arities answers ws)
+list_numbered : (end : Option End) (visited : ℕ) (arities : List ℕ) (answers : ℕ) (ws : List ℕ) → Numbered (3 ∷ 8 ∷ []) (check_list edition_one end visited arities answers ws)
 unfolding check_list check_answers
-list_numbered Nowhere visited arities answers ws = told_as (here refl)
-list_numbered (As end) visited arities answers ws = above_numbered _ _ (above_numbered _ _ (three_too (walk_numbered arities _ ws 0 answers 0 0)))
+list_numbered None visited arities answers ws = told_as (here refl)
+list_numbered (Some end) visited arities answers ws = above_numbered _ _ (above_numbered _ _ (three_too (walk_numbered arities _ ws 0 answers 0 0)))
 
 -- ---- of the entries
 
@@ -129,14 +122,14 @@ run_numbers q l r e = go (lent l.steps l.depth l.size) e
         (λ f. let x : gives _ ≡ refuses r = rw f at e in impossible (cc))
 
     asking : (limits : Limits) (c : Checked) → Numbered (3 ∷ 8 ∷ []) c → after_check c refuses (tested-room limits) ≡ refuses r → OneOf (3 ∷ 8 ∷ 7 ∷ []) (number r.cause)
-    asking limits (Refused s) (told_as h) e = let same : s ≡ r = cc in or_later (7 ∷ []) h same
-    asking limits Fine h e = there (there (here (short limits e)))
+    asking limits (Err s) (told_as h) e = let same : s ≡ r = cc in or_later (7 ∷ []) h same
+    asking limits (Ok _) h e = there (there (here (short limits e)))
 
     go : (x : Option Limits) → told_within q.unknowns q.arities q.equations q.words (length l.answers) (length l.room) x ≡ refuses r → OneOf (3 ∷ 8 ∷ 7 ∷ []) (number r.cause)
     go None e = let z : record { cause = Limit; place = 0 } ≡ r = cc in rw (← z) (here refl)
     go (Some limits) e = asking limits _ (question_numbered q.unknowns q.arities q.equations q.words) e
 
-written-numbers : {c : Checked} → Numbered (3 ∷ 8 ∷ []) c → (deep : First) (room : ℕ) (text : List ℕ) {r : Refusal} → tested c deep room text ≡ writing.Refused r
+written-numbers : {c : Checked} → Numbered (3 ∷ 8 ∷ []) c → (deep : First) (room : ℕ) (text : List ℕ) {r : Refusal} → tested c deep room text ≡ Err r
     → OneOf (3 ∷ 8 ∷ 6 ∷ 7 ∷ []) (number r.cause)
 unfolding tested
 written-numbers (told_as {r = s} h) deep room text {r} e = let same : s ≡ r = cc in or_later (6 ∷ 7 ∷ []) h same
@@ -146,11 +139,11 @@ written-numbers passed deep room text {r} e = go (past_the_check deep room text 
     go (inl six) = there (there (here six))
     go (inr seven) = there (there (there (here seven)))
 
-pub question-numbers : (q : Posed) (buffer : List ℕ) (r : Refusal) → question_told q buffer ≡ writing.Refused r → OneOf (3 ∷ 8 ∷ 6 ∷ 7 ∷ []) (number r.cause)
+pub question-numbers : (q : Posed) (buffer : List ℕ) (r : Refusal) → question_told q buffer ≡ Err r → OneOf (3 ∷ 8 ∷ 6 ∷ 7 ∷ []) (number r.cause)
 unfolding question_written
 question-numbers q buffer r e = written-numbers (question_numbered q.unknowns q.arities q.equations q.words) _ _ _ e
 
-pub list-numbers : (arities : List ℕ) (end visited answers : ℕ) (words buffer : List ℕ) (r : Refusal) → list_told arities end visited answers words buffer ≡ writing.Refused r
+pub list-numbers : (arities : List ℕ) (end visited answers : ℕ) (words buffer : List ℕ) (r : Refusal) → list_told arities end visited answers words buffer ≡ Err r
     → OneOf (3 ∷ 8 ∷ 6 ∷ 7 ∷ []) (number r.cause)
 unfolding list_written
 list-numbers arities end visited answers words buffer r e = written-numbers (list_numbered (end_of end) visited arities answers words) _ _ _ e
@@ -160,8 +153,8 @@ unfolding equal_answer equality_after
 equal-numbers arities ws r e = go _ (row_numbered arities 2 ws) _ e
   where
     go : (c : Checked) → Numbered (3 ∷ 8 ∷ []) c → (test : Bool) → equality_after c test ≡ Err r → OneOf (3 ∷ 8 ∷ []) (number r.cause)
-    go (Refused s) (told_as h) test e = let same : s ≡ r = cc in or_later [] h same
-    go Fine h test e = impossible (cc)
+    go (Err s) (told_as h) test e = let same : s ≡ r = cc in or_later [] h same
+    go (Ok _) h test e = impossible (cc)
 
 pub solves_numbers : (q : Posed) (ws : List ℕ) (r : Refusal) → solves_told q ws ≡ Err r
     → OneOf (3 ∷ 8 ∷ []) (number r.cause)
@@ -169,9 +162,9 @@ unfolding solves_answer solving_after
 solves_numbers q ws r e = go _ (question_numbered q.unknowns q.arities q.equations q.words) _ (row_numbered q.arities q.unknowns ws) _ e
   where
     go : (c : Checked) → Numbered (3 ∷ 8 ∷ []) c → (d : Checked) → Numbered (3 ∷ 8 ∷ []) d → (test : Bool) → solving_after c d test ≡ Err r → OneOf (3 ∷ 8 ∷ []) (number r.cause)
-    go (Refused s) (told_as h) d k test e = let same : s ≡ r = cc in or_later [] h same
-    go Fine h (Refused s) (told_as k) test e = let same : s ≡ r = cc in or_later [] k same
-    go Fine h Fine k test e = impossible (cc)
+    go (Err s) (told_as h) d k test e = let same : s ≡ r = cc in or_later [] h same
+    go (Ok _) h (Err s) (told_as k) test e = let same : s ≡ r = cc in or_later [] k same
+    go (Ok _) h (Ok _) k test e = impossible (cc)
 
 -- ---- of texts
 

@@ -7,7 +7,6 @@ use Rattle.numerals.specs.TextReading.{Reading, read, refused}
 use Rattle.reader.specs.LentBuffers.{answer, laid}
 use Rattle.question_reader.specs.Questions as reader
 use Rattle.writer.specs.Written.{held}
-use Rattle.results.specs.declared.written.Written.TheVariants as writing
 use Rattle.results.specs.Result.{Told, refuses, gives, result, words_told}
 use Rattle.guarantees.specs.Calls.{Posed, Lending, run_told, answers_after, question_told, question_after, list_told, list_after, text_told, arities_after, words_after}
 use Rattle.guarantees.proofs.Subjects.{impossible}
@@ -21,11 +20,11 @@ text_refused text arities words r e = go (text_told text arities words) refl e
     go (read p a) s e = impossible (cc)
     go (refused s) t e = (rw t, rw t)
 
-pub question-refused : (q : Posed) (buffer : List ℕ) (r : Refusal) → question_told q buffer ≡ writing.Refused r → question_after q buffer ≡ buffer
+pub question-refused : (q : Posed) (buffer : List ℕ) (r : Refusal) → question_told q buffer ≡ Err r → question_after q buffer ≡ buffer
 unfolding held
 question-refused q buffer r e = rw e
 
-pub list-refused : (arities : List ℕ) (end visited answers : ℕ) (words buffer : List ℕ) (r : Refusal) → list_told arities end visited answers words buffer ≡ writing.Refused r
+pub list-refused : (arities : List ℕ) (end visited answers : ℕ) (words buffer : List ℕ) (r : Refusal) → list_told arities end visited answers words buffer ≡ Err r
     → list_after arities end visited answers words buffer ≡ buffer
 unfolding held
 list-refused arities end visited answers words buffer r e = rw e

@@ -1,5 +1,6 @@
 -- Reading and writing, of the entries: which questions are written, and that what was written is read back and what was read is written back.
 use Rattle.std.specs.Prelude.{ℕ, ◌≤◌, ◌<◌, ◌≡◌, refl, List, [], ◌∷◌, ◌++◌, ◌↔◌, ltb, length, take, drop, Ok, Err}
+use Rattle.checks.specs.Check.{Checked}
 use Rattle.std.proofs.Common.{ap, sym, ◌∙◌, arith, ltb-false, le-ltb}
 use Rattle.std.proofs.Math.Seq.{take-append_seam}
 use Rattle.terms.specs.Bounds.{edition_one, edition_one_proper, NESTING, BYTES}
@@ -10,9 +11,6 @@ use Rattle.terms.specs.Reading.{question_of}
 use Rattle.terms.specs.Refusal.{number}
 use Rattle.terms.specs.declared.refusal.Cause.TheVariants.{Nesting, Buffer}
 use Rattle.terms.specs.declared.refusal.Refusal.{Refusal}
-use Rattle.terms.specs.declared.refusal.Checked.{Checked}
-use Rattle.terms.specs.declared.refusal.Checked.TheVariants.{Fine}
-use Rattle.terms.specs.declared.refusal.Checked.TheVariants as checked
 use Rattle.text.specs.Text.{question_text}
 use Rattle.numerals.specs.TextReading.{Reading, read, refused, and_then, then-read}
 use Rattle.question_reader.specs.Questions.{question as asks_of}
@@ -26,7 +24,6 @@ use Rattle.roundtrip.specs.QuestionSpans as back
 use Rattle.word_writer.specs.Depths.{First, all_within, first_at}
 use Rattle.word_writer.specs.Pen.{counted}
 use Rattle.writer.specs.Written.{fitted, nested, tested, held, too_deep_in, question_written}
-use Rattle.results.specs.declared.written.Written.TheVariants.{Length, Refused}
 use Rattle.guarantees.specs.Calls.{Posed, asked, in_words, question_told, question_after, text_told, arities_after, words_after}
 use Rattle.guarantees.specs.Notions.{NestsWithin, Writable, Writes, Reads, question_in, OneOf}
 use Rattle.guarantees.proofs.Subjects.{impossible}
@@ -38,37 +35,37 @@ use Rattle.guarantees.proofs.Subjects.RefusalNumbers.{Numbered, passed, told_as,
 
 -- the writer's tests, passed
 record Passes (c : Checked) (deep : First) (room : ℕ) (text : List ℕ) (n : ℕ) : Type 0 where
-  fine : c ≡ Fine
+  fine : c ≡ Ok tt
   shallow : deep ≡ all_within
   long : n ≡ length text
   fits : n ≤ room
 
-passes : (c : Checked) (deep : First) (room : ℕ) (text : List ℕ) (n : ℕ) → tested c deep room text ≡ Length n → Passes c deep room text n
+passes : (c : Checked) (deep : First) (room : ℕ) (text : List ℕ) (n : ℕ) → tested c deep room text ≡ Ok n → Passes c deep room text n
 unfolding tested nested fitted
-passes (checked.Refused r) deep room text n e = impossible (cc)
-passes Fine (first_at p) room text n e = impossible (cc)
-passes Fine all_within room text n e =
+passes (Err r) deep room text n e = impossible (cc)
+passes (Ok _) (first_at p) room text n e = impossible (cc)
+passes (Ok _) all_within room text n e =
     cases (ltb room (length text))
-    (λ t. let x : Refused _ ≡ Length n = rw t at e in impossible (cc))
-    (λ f. let x : Length (length text) ≡ Length n = rw f at e in
+    (λ t. let x : Err _ ≡ Ok n = rw t at e in impossible (cc))
+    (λ f. let x : Ok (length text) ≡ Ok n = rw f at e in
     let same : length text ≡ n = cc in
     record { fine = refl; shallow = refl; long = sym same; fits = omega (arith, ltb-false room (length text) f) })
 
-pub written_exactly : (q : Posed) (n : ℕ) (buffer : List ℕ) → (question_told q buffer ≡ Length n) ↔ Writable q n buffer
+pub written_exactly : (q : Posed) (n : ℕ) (buffer : List ℕ) → (question_told q buffer ≡ Ok n) ↔ Writable q n buffer
 unfolding question_written tested nested fitted
 written_exactly q n buffer = (
   λ e.
       let p = passes _ _ (length buffer) _ n e in
       record { good = (asked_exactly q).0 p.fine; nests = (question_nests (asked q)).0 p.shallow; long = p.long; fits = p.fits },
   λ w.
-      rw ((asked_exactly q).1 w.good, (question_nests (asked q)).1 w.nests, le-ltb (length buffer) (length (question_text (asked q))) (omega (arith, w.long, w.fits))) (ap Length (sym w.long)),
+      rw ((asked_exactly q).1 w.good, (question_nests (asked q)).1 w.nests, le-ltb (length buffer) (length (question_text (asked q))) (omega (arith, w.long, w.fits))) (ap Ok (sym w.long)),
 )
 
 -- ---- what is refused for its nesting
 
 -- refused with 6: the check is fine, and a bracket stands too deep
-deep_by : {c : Checked} → Numbered (3 ∷ 8 ∷ []) c → (deep : First) (room : ℕ) (text : List ℕ) (r : Refusal) → tested c deep room text ≡ Refused r → number r.cause ≡ 6
-    → (c ≡ Fine) × (deep ≡ all_within → ⊥)
+deep_by : {c : Checked} → Numbered (3 ∷ 8 ∷ []) c → (deep : First) (room : ℕ) (text : List ℕ) (r : Refusal) → tested c deep room text ≡ Err r → number r.cause ≡ 6
+    → (c ≡ Ok tt) × (deep ≡ all_within → ⊥)
 unfolding tested nested fitted
 deep_by (told_as {r = s} h) deep room text r e six =
     let same : s ≡ r = cc in
@@ -82,14 +79,14 @@ deep_by (told_as {r = s} h) deep room text r e six =
 deep_by passed (first_at p) room text r e six = (refl, λ z. impossible (cc))
 deep_by passed all_within room text r e six =
     cases (ltb room (length text))
-    (λ t. let x : Refused (record { cause = Buffer; place = counted (length text) }) ≡ Refused r = rw t at e in
+    (λ t. let x : Err (record { cause = Buffer; place = counted (length text) }) ≡ Err r = rw t at e in
     let same : record { cause = Buffer; place = counted (length text) } ≡ r = cc in
     let seven : 7 ≡ 6 = rw (← same) at six in
     absurd (omega arith))
-    (λ f. let x : Length (length text) ≡ Refused r = rw f at e in impossible (cc))
+    (λ f. let x : Ok (length text) ≡ Err r = rw f at e in impossible (cc))
 
 pub too_deep_exactly : (q : Posed) (buffer : List ℕ)
-    → ((r : Refusal) × (question_told q buffer ≡ Refused r) × (number r.cause ≡ 6)) ↔ (Asked edition_one q.equations q.words (asked q) × (NestsWithin NESTING (asked q) → ⊥))
+    → ((r : Refusal) × (question_told q buffer ≡ Err r) × (number r.cause ≡ 6)) ↔ (Asked edition_one q.equations q.words (asked q) × (NestsWithin NESTING (asked q) → ⊥))
 unfolding question_written tested nested
 too_deep_exactly q buffer = (
   λ h.
@@ -100,14 +97,14 @@ too_deep_exactly q buffer = (
 )
   where
     go : (deep : First) → too_deep_in edition_one (asked q) ≡ deep → Asked edition_one q.equations q.words (asked q) × (NestsWithin NESTING (asked q) → ⊥)
-        → (r : Refusal) × (question_told q buffer ≡ Refused r) × (number r.cause ≡ 6)
+        → (r : Refusal) × (question_told q buffer ≡ Err r) × (number r.cause ≡ 6)
     go all_within e h = absurd (h.1 ((question_nests (asked q)).0 e))
     go (first_at p) e h = (record { cause = Nesting; place = p }, rw ((asked_exactly q).1 h.0, e), refl)
 
 -- ---- in words and back
 
 -- the buffer after a question was written
-written_after : (q : Posed) (n : ℕ) (buffer : List ℕ) → question_told q buffer ≡ Length n → question_after q buffer ≡ question_text (asked q) ++ drop (length (question_text (asked q))) buffer
+written_after : (q : Posed) (n : ℕ) (buffer : List ℕ) → question_told q buffer ≡ Ok n → question_after q buffer ≡ question_text (asked q) ++ drop (length (question_text (asked q))) buffer
 unfolding held
 written_after q n buffer e = rw e
 
@@ -135,7 +132,7 @@ reads : (text : List ℕ) (q : Posed) (arities words : List ℕ) (p : ℕ)
 unfolding answer laid
 reads text q arities words p e = record { back = rw e; arities_hold = rw e; words_hold = rw e }
 
-pub written-then-read : (q : Posed) (n : ℕ) (buffer : List ℕ) → question_told q buffer ≡ Length n → (arities words : List ℕ) → length q.arities ≤ length arities → length q.words ≤ length words
+pub written-then-read : (q : Posed) (n : ℕ) (buffer : List ℕ) → question_told q buffer ≡ Ok n → (arities words : List ℕ) → length q.arities ≤ length arities → length q.words ≤ length words
     → Reads (take n (question_after q buffer)) q arities words
 unfolding question_of edition_one
 written-then-read q n buffer e arities words h k =

@@ -1,24 +1,17 @@
-use mathlib.Core.Path.{sym, ◌∙◌}
-use native.Mathlib.Omega.{arith}
+use Rattle.std.proofs.Common.{◌∙◌, ltb, rules, lt-ltb}
+use Rattle.std.proofs.lemmas.Iterator.{YieldsList-from_slice}
+use Rattle.std.proofs.lemmas.Iterator.Search.{any_from_yields_List}
 use Rattle.terms.specs.Bounds.{edition_one}
-use Rattle.lent_words.proofs.Limits.{too_many, not_too_many, none_left, one-above, one_below}
+use Rattle.checks.specs.Check.{arities_above}
+use Rattle.lent_words.proofs.Limits.{not_too_many}
 use Rattle.lent_words.proofs.above_limits.Goals as goal
 
 pub returns-then-arities-gt-FUNCTORS : goal.returns-then-arities-gt-FUNCTORS
-unfolding edition_one
-returns-then-arities-gt-FUNCTORS c = sym (too_many edition_one _ c.if-arities-gt-FUNCTORS.true)
+unfolding arities_above edition_one
+returns-then-arities-gt-FUNCTORS c = rw (lt-ltb _ _ c.if-arities-gt-FUNCTORS.true)
 
-pub loop-k-init : goal.loop-k-init
+pub returns-else-arities-gt-FUNCTORS : goal.returns-else-arities-gt-FUNCTORS
 unfolding edition_one
-loop-k-init c = (not_too_many edition_one _ c.if-arities-gt-FUNCTORS.false, omega arith)
-
-pub returns-then-arities-k-gt-ARITY : goal.returns-then-arities-k-gt-ARITY
-unfolding edition_one
-returns-then-arities-k-gt-ARITY c = sym (c.loop-k.invariant.0 ∙ one-above edition_one _ _ c.loop-k-test.true c.if-arities-k-gt-ARITY.true)
-
-pub loop-k-preserved : goal.loop-k-preserved
-unfolding edition_one
-loop-k-preserved c = (c.loop-k.invariant.0 ∙ one_below edition_one _ _ c.loop-k-test.true c.if-arities-k-gt-ARITY.false, omega arith)
-
-pub returns : goal.returns
-returns c = sym (c.loop-k.invariant.0 ∙ none_left edition_one _ _ c.loop-k-test.false)
+returns-else-arities-gt-FUNCTORS c =
+    any_from_yields_List (ltb 8) _ _ _ c.any.ensures.ran (YieldsList-from_slice c.args.arities.now cc) (λ x b q k. search rules)
+    ∙ not_too_many edition_one c.args.arities.now c.if-arities-gt-FUNCTORS.false

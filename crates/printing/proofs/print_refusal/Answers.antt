@@ -7,7 +7,7 @@ use Rattle.printing.proofs.print_refusal.Goals as goal
 pub returns : goal.returns
 returns c =
     refusal_printed _
-    (c.wide.ensures
+    (c.from.ensures
     ∙ c.number_of.ensures)
     (search rules) c.requires
     c.put_number_line-second.ensures c.put_number_line.ensures

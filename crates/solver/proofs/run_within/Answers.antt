@@ -14,22 +14,22 @@ overflow_mul-needed c = omega (arith, needed_small c.args.limits c.requires.dept
 
 pub returns-then-room-needed : goal.returns-then-room-needed
 unfolding needed
-returns-then-room-needed c = small_room _ _ _ _ _ _ _ (sym c.check_question.ensures ∙ c.in-Fine.is) c.if-room-needed.true
+returns-then-room-needed c = small_room _ _ _ _ _ _ _ (sym c.check_question.ensures ∙ c.in-Ok.is) c.if-room-needed.true
 
-pub slice_bounds-start-end-in-Fine : goal.slice_bounds-start-end-in-Fine
+pub slice_bounds-start-end-in-Ok : goal.slice_bounds-start-end-in-Ok
 unfolding needed
-slice_bounds-start-end-in-Fine c = sym (length-take-le _ _ c.if-room-needed.false)
+slice_bounds-start-end-in-Ok c = sym (length-take-le _ _ c.if-room-needed.false)
 
 pub start-requires : goal.start-requires
 unfolding needed
 start-requires c =
-    asking _ c.requires (sym c.check_question.ensures ∙ c.in-Fine.is)
+    asking _ c.requires (sym c.check_question.ensures ∙ c.in-Ok.is)
     (length-take-le _ _ c.if-room-needed.false)
 
-pub returns-in-Refused : goal.returns-in-Refused
-returns-in-Refused c = faulty _ _ _ _ _ _ _ (sym c.check_question.ensures ∙ c.in-Refused.is)
+pub returns-in-Err : goal.returns-in-Err
+returns-in-Err c = faulty _ _ _ _ _ _ _ (sym c.check_question.ensures ∙ c.in-Err.is)
 
 pub returns-else-room-needed : goal.returns-else-room-needed
 unfolding needed
 returns-else-room-needed c =
-    fine_run _ _ _ _ _ _ _ (sym c.check_question.ensures ∙ c.in-Fine.is) c.if-room-needed.false c.start.ensures
+    fine_run _ _ _ _ _ _ _ (sym c.check_question.ensures ∙ c.in-Ok.is) c.if-room-needed.false c.start.ensures

@@ -1,8 +1,5 @@
 -- `checks::check::check_short` meets its contract. The loop's invariant: the fault of the words from the start is that of the words from the place on.
--- The measure is what is left of the words.
-use Prim.Native.Nat.{◌-◌, ◌≤◌}
-use mathlib.Core.Path.{◌≡◌}
-use lib.ListN.{length, drop}
+use Rattle.std.proofs.Common.{◌≡◌, ◌≤◌, length, drop}
 use Rattle.terms.specs.Bounds.{edition_one}
 use Rattle.checks.specs.Short.{stopped}
 use Rattle.checks.proofs.check.check_short.Given as goal
@@ -10,6 +7,3 @@ use Rattle.checks.proofs.check.check_short.Given as goal
 abbrev pub invariant-loop-place : goal.invariant-loop-place
 invariant-loop-place l =
     (stopped edition_one l.arities l.unknowns (drop l.from l.words) l.from ≡ stopped edition_one l.arities l.unknowns (drop l.place l.words) l.place) × (l.place ≤ length l.words)
-
-abbrev pub decreases-loop-place : goal.decreases-loop-place
-decreases-loop-place l = length l.words - l.place

@@ -1,17 +1,10 @@
 -- `checks::check::check_words` meets its contract. The loop's invariant: the check of all words is that of the words from the place on, with what is due there.
--- The measure is what is left of the words. The counter of terms stays below the length, or `check_short` takes over.
-use Prim.Native.Nat.{◌-◌, ◌≤◌}
-use mathlib.Core.Path.{◌≡◌}
-use lib.ListN.{length, drop}
+-- The counter of terms stays below the length, or `check_short` takes over.
+use Rattle.std.proofs.Common.{◌≡◌, drop}
 use Rattle.terms.specs.Bounds.{edition_one}
 use Rattle.checks.specs.Check.{checked}
 use Rattle.checks.proofs.check.check_words.Given as goal
 
 abbrev pub invariant-loop-place : goal.invariant-loop-place
 invariant-loop-place l =
-    (checked edition_one l.arities l.unknowns l.words 0 l.answers 0 l.terms ≡ checked edition_one l.arities l.unknowns (drop l.place l.words) l.place l.answers_due l.bindings_due l.terms_due)
-    × (l.place ≤ length l.words)
-
-abbrev pub decreases-loop-place : goal.decreases-loop-place
-decreases-loop-place l =
-    length l.words - l.place
+    checked edition_one l.arities l.unknowns l.words 0 l.answers 0 l.terms ≡ checked edition_one l.arities l.unknowns (drop l.place l.words) l.place l.answers_due l.bindings_due l.terms_due

@@ -7,7 +7,7 @@ use Rattle.lines.proofs.list_lines.write_answer.Goals as goal
 pub returns-then-from-words : goal.returns-then-from-words
 unfolding answer_at
 returns-then-from-words c =
-    numbered _ _ _ _ c.if-from-words.true _ _ c.wide.ensures c.count.ensures c.put_number_line-next.ensures
+    numbered _ _ _ _ c.if-from-words.true _ _ c.from.ensures c.from-then-from-words.ensures c.put_number_line-next.ensures
     c.write_bindings.ensures
 
 pub returns : goal.returns

@@ -1,27 +1,19 @@
-use borrow.Author.Rules.{rules}
-use mathlib.Core.Path.{◌∙◌}
-use Rattle.lines.proofs.Lined.{repeat-some, repeat_none}
+use Rattle.std.proofs.Common.{rules}
+use Rattle.std.proofs.lemmas.Result.{err_from_is_err_and}
+use Rattle.lines.proofs.Lined.{repeat_all, repeat-some, repeat_none}
 use Rattle.word_writer.specs.Passages.{rest_all, rest_as, rest_none, rest_then, rest-stop}
 use Rattle.lines.proofs.list_lines.write_answers_due.Goals as goal
 
-pub loop-due-init : goal.loop-due-init
-loop-due-init c = rest_all _ _ _ (search rules) (search rules)
+pub loop-init : goal.loop-init
+loop-init c = rest_as (repeat_all _ _ _) (rest_all _ _ _ (search rules) (search rules))
 
-pub loop-due-preserved : goal.loop-due-preserved
-loop-due-preserved c =
-    rest_then _ (rest_as (repeat-some _ _ _ c.loop-due-test.true) c.loop-due.invariant) c.write_answer.ensures
-    c.in-To.is
+pub loop-preserved : goal.loop-preserved
+loop-preserved c = rest_then _ (rest_as (repeat-some _ _ _ _ c.loop-test.true) c.loop.invariant) c.write_answer.ensures c.in_ok-passage.was
 
-pub shape_of-text-in-TooDeep : goal.shape_of-text-in-TooDeep
-shape_of-text-in-TooDeep c = c.write_answer.auto.text ∙ c.loop-due.invariant.kept
-
-pub returns-in-TooDeep : goal.returns-in-TooDeep
-returns-in-TooDeep c =
-    rest-stop _ (rest_as (repeat-some _ _ _ c.loop-due-test.true) c.loop-due.invariant) c.write_answer.ensures
-    c.in-TooDeep.is
-
-pub shape_of-text : goal.shape_of-text
-shape_of-text c = c.loop-due.invariant.kept
+pub returns-in_err-passage : goal.returns-in_err-passage
+returns-in_err-passage c =
+    let p = err_from_is_err_and c.from_residual.result c.from_residual.ensures.1 in
+    rw (p.1, p.2) (rest-stop _ (rest_as (repeat-some _ _ _ _ c.loop-test.true) c.loop.invariant) c.write_answer.ensures c.in_err-passage.was)
 
 pub returns : goal.returns
-returns c = rest_none (rest_as (repeat_none _ _ _ c.loop-due-test.false) c.loop-due.invariant)
+returns c = rest_none (rest_as (repeat_none _ _ _ _ c.loop-test.false) c.loop.invariant)

@@ -8,7 +8,7 @@ use Rattle.lines.proofs.list_lines.write_binding.Goals as goal
 pub returns-then-from-words : goal.returns-then-from-words
 unfolding binding_at
 returns-then-from-words c =
-    numbered _ _ _ _ c.if-from-words.true _ _ c.wide.ensures refl c.put_number_line-next.ensures
+    numbered _ _ _ _ c.if-from-words.true _ _ c.from.ensures refl c.put_number_line-next.ensures
     c.write_term_line.ensures
 
 pub returns : goal.returns

@@ -1,38 +1,31 @@
-use borrow.Author.Rules.{rules}
-use mathlib.Core.Path.{refl, sym, ◌∙◌}
+use Rattle.std.proofs.Common.{◌≡◌, refl, ◌∙◌, rules}
+use Rattle.std.proofs.lemmas.Result.{err_from_is_err_and}
 use Rattle.term_writer.proofs.TermWalk.{all_left, left_none, left-deep, left_ended, left-more}
 use Rattle.term_writer.proofs.term.write_term.Goals as goal
 
-pub loop-p-init : goal.loop-p-init
-loop-p-init c = all_left _ _ _ _ _ _ refl (search rules) (search rules)
+pub loop-word-init : goal.loop-word-init
+loop-word-init c = record { left = all_left _ _ _ _ _ _ refl (search rules) (search rules); no_further = search rules }
 
-pub slice_bounds-write_word-end : goal.slice_bounds-write_word-end
-slice_bounds-write_word-end c = sym c.loop-p.invariant.full
+pub returns-in_err-pen : goal.returns-in_err-pen
+returns-in_err-pen c =
+    let p = err_from_is_err_and c.from_residual.result c.from_residual.ensures.1 in
+    let none = c.in_err-pen.ensures.ok_part in
+    let same : c.in_err-pen.field-0.0 ≡ record { word = c.loop-word.word } =
+    let e = rw none at c.in_err-pen.ensures.value in cc in
+    rw (p.1, p.2, same) (left-deep c.loop-word.invariant.left c.loop-word-test.true _ c.symbol_of-symbol.ensures c.write_word.ensures none)
 
-pub shape_of-text-then-depth-eq0 : goal.shape_of-text-then-depth-eq0
-shape_of-text-then-depth-eq0 c =
-    c.write_word.auto.text ∙ c.loop-p.invariant.kept
+pub returns-then-pen-eq0 : goal.returns-then-pen-eq0
+returns-then-pen-eq0 c =
+    left_ended c.loop-word.invariant.left c.loop-word-test.true _ c.symbol_of-symbol.ensures _ c.write_word.ensures c.in_ok-pen.ensures.ok_part
+    c.if-pen-eq0.true
 
-pub returns-then-depth-eq0 : goal.returns-then-depth-eq0
-returns-then-depth-eq0 c =
-    left_ended c.loop-p.invariant c.loop-p-test.true _ c.symbol_of-symbol.ensures _ c.write_word.ensures
-    c.in-On.is c.if-depth-eq0.true
-
-pub loop-p-preserved : goal.loop-p-preserved
-loop-p-preserved c =
-    left-more c.loop-p.invariant c.loop-p-test.true _ c.symbol_of-symbol.ensures _ c.write_word.ensures
-    c.in-On.is c.if-depth-eq0.false (c.write_word.auto.stack ∙ c.loop-p.invariant.full)
-
-pub shape_of-text-in-Deep : goal.shape_of-text-in-Deep
-shape_of-text-in-Deep c = c.write_word.auto.text ∙ c.loop-p.invariant.kept
-
-pub returns-in-Deep : goal.returns-in-Deep
-returns-in-Deep c =
-    left-deep c.loop-p.invariant c.loop-p-test.true _ c.symbol_of-symbol.ensures c.write_word.ensures
-    c.in-Deep.is
-
-pub shape_of-text : goal.shape_of-text
-shape_of-text c = c.loop-p.invariant.kept
+pub loop-word-preserved : goal.loop-word-preserved
+loop-word-preserved c = record {
+  left =
+      left-more c.loop-word.invariant.left c.loop-word-test.true _ c.symbol_of-symbol.ensures _ c.write_word.ensures c.in_ok-pen.ensures.ok_part
+      c.if-pen-eq0.false (c.write_word.auto.stack ∙ c.loop-word.invariant.left.full);
+  no_further = search rules;
+}
 
 pub returns : goal.returns
-returns c = left_none c.loop-p.invariant c.loop-p-test.false
+returns c = left_none c.loop-word.invariant.left c.loop-word-test.false (search rules)

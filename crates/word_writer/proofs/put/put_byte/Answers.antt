@@ -1,12 +1,15 @@
-use Rattle.word_writer.specs.Writing.{wrote_byte, wrote_past, wrote_full}
-use borrow.Author.Rules.{rules}
+use Rattle.std.proofs.Common.{◌≡◌, ◌+◌, rules}
+use Rattle.word_writer.specs.Pen.{counted}
+use Rattle.word_writer.specs.Writing.{wrote_byte, wrote_past}
 use Rattle.word_writer.proofs.put.put_byte.Goals as goal
-
-pub returns-then-at-text : goal.returns-then-at-text
-returns-then-at-text c = wrote_byte _ (search rules) c.if-at-text.true
-
-pub returns-then-at-lt-MOST : goal.returns-then-at-lt-MOST
-returns-then-at-lt-MOST c = wrote_past _ (search rules) c.if-at-text.false c.if-at-lt-MOST.true
+use Rattle.word_writer.proofs.put.put_byte.Goals.{then-at-text, else-at-text}
 
 pub returns : goal.returns
-returns c = wrote_full _ (search rules) c.if-at-lt-MOST.false (search rules)
+unfolding counted
+returns c =
+    elim c.if-at-text.branch [
+      | then-at-text w ↦
+          let next : c.saturating_add.result ≡ c.args.at + 1 = search rules in
+          rw (w.text-is, next) (wrote_byte _ (search rules) w.if-at-text.true)
+      | else-at-text w ↦ rw (w.text-is, c.saturating_add.ensures) (wrote_past _ (search rules) w.if-at-text.false)
+    ]

@@ -1,10 +1,6 @@
-use Prim.Native.Nat.{◌-◌, ◌≤◌}
-use lib.ListN.{length, take}
+use Rattle.std.proofs.Common.{take}
 use Rattle.word_writer.specs.Pen.{Wrote}
 use Rattle.word_writer.proofs.put.put_bytes.Given as goal
 
-abbrev pub invariant-loop-i : goal.invariant-loop-i
-invariant-loop-i l = Wrote l.initial.text l.at (take l.i l.bytes) l.text l.next × (l.i ≤ length l.bytes)
-
-abbrev pub decreases-loop-i : goal.decreases-loop-i
-decreases-loop-i l = length l.bytes - l.i
+abbrev pub invariant-loop-byte : goal.invariant-loop-byte
+invariant-loop-byte l = Wrote l.initial.text l.at (take l.byte-index l.bytes) l.text l.next
