@@ -12,7 +12,7 @@ use crate::pile::replace_part;
 use replace::Replacement;
 use room::layout::HEADER;
 use rows::header::{Header, seal};
-use rows::parts::{Part, Rest};
+use rows::parts::{DueRow, Part, Rest};
 use terms::kind::unknown_number;
 
 // The pending equations, then the released entries, which are those of x.
@@ -70,15 +70,14 @@ fn finish_bindings(
     room: &mut [u16],
     rest: Rest,
     swap: Replacement,
-    to: usize,
+    row: DueRow,
     pending: usize,
     pile: usize,
-    size: usize,
-    next: usize,
 ) -> Option<()>
-    requires { FinishParts room.old rest swap.by swap.m to (pending + pile) size swap.x next }
-    ensures { Finished room.old to (pending + pile) size (bound_bindings room.old rest swap.x swap.by swap.m) (header_of (bound_header rest pending pile swap.m next)) (of_sized result) room.new }
+    requires { FinishParts room.old rest swap.by swap.m row.to (pending + pile) row.size swap.x row.next }
+    ensures { Finished room.old row.to (pending + pile) row.size (bound_bindings room.old rest swap.x swap.by swap.m) (header_of (bound_header rest pending pile swap.m row.next)) (of_sized result) room.new }
 {
+    let DueRow { to, size, next } = row;
     let start = pending + pile;
     let k = bind_last(room, rest, swap, to + HEADER + start, size - start)?;
     let bindings = rest.bindings + 1;
@@ -103,13 +102,11 @@ pub fn finish_pile(
     room: &mut [u16],
     rest: Rest,
     swap: Replacement,
-    to: usize,
+    row: DueRow,
     pending: usize,
-    size: usize,
-    next: usize,
 ) -> Option<()>
-    requires { FinishParts room.old rest swap.by swap.m to pending size swap.x next }
-    ensures { Finished room.old to pending size (bound_pile edition_one arities.now room.old rest swap.x swap.by swap.m ++ bound_bindings room.old rest swap.x swap.by swap.m) (header_of (bound_header rest pending (length (bound_pile edition_one arities.now room.old rest swap.x swap.by swap.m)) swap.m next)) (of_sized result) room.new }
+    requires { FinishParts room.old rest swap.by swap.m row.to pending row.size swap.x row.next }
+    ensures { Finished room.old row.to pending row.size (bound_pile edition_one arities.now room.old rest swap.x swap.by swap.m ++ bound_bindings room.old rest swap.x swap.by swap.m) (header_of (bound_header rest pending (length (bound_pile edition_one arities.now room.old rest swap.x swap.by swap.m)) swap.m row.next)) (of_sized result) room.new }
 {
     let at = rest.at + rest.pending;
     let k = replace_part(
@@ -119,10 +116,10 @@ pub fn finish_pile(
         at,
         rest.pile,
         swap,
-        to + HEADER + pending,
-        size - pending,
+        row.to + HEADER + pending,
+        row.size - pending,
     )?;
-    finish_bindings(room, rest, swap, to, pending, k, size, next)
+    finish_bindings(room, rest, swap, row, pending, k)
 }
 
 // A child's row, of whose body the new equations are written, so many words: the rest of the parent's row with x bound to the words of the swap.
@@ -131,21 +128,19 @@ pub fn finish(
     room: &mut [u16],
     rest: Rest,
     swap: Replacement,
-    to: usize,
+    row: DueRow,
     written: usize,
-    size: usize,
-    next: usize,
 ) -> Option<()>
-    requires { FinishParts room.old rest swap.by swap.m to written size swap.x next }
-    ensures { Finished room.old to written size (bound_body edition_one arities.now room.old rest swap.x swap.by swap.m) (header_of (bound_header rest (written + length (bound_pending edition_one arities.now room.old rest swap.x swap.by swap.m)) (length (bound_pile edition_one arities.now room.old rest swap.x swap.by swap.m)) swap.m next)) (of_sized result) room.new }
+    requires { FinishParts room.old rest swap.by swap.m row.to written row.size swap.x row.next }
+    ensures { Finished room.old row.to written row.size (bound_body edition_one arities.now room.old rest swap.x swap.by swap.m) (header_of (bound_header rest (written + length (bound_pending edition_one arities.now room.old rest swap.x swap.by swap.m)) (length (bound_pile edition_one arities.now room.old rest swap.x swap.by swap.m)) swap.m row.next)) (of_sized result) room.new }
 {
     let k = bind_pending(
         arities,
         room,
         rest,
         swap,
-        to + HEADER + written,
-        size - written,
+        row.to + HEADER + written,
+        row.size - written,
     )?;
-    finish_pile(arities, room, rest, swap, to, written + k, size, next)
+    finish_pile(arities, room, rest, swap, row, written + k)
 }

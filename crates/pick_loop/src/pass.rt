@@ -3,10 +3,10 @@ ghost use Rattle.choices.specs.OpenParent.{Parent};
 ghost use Rattle.pick_loop.specs.PicksInScratch.{Picks, PicksAt, Ended, EndedAt, Picked};
 
 use choices::picks::advance;
-use choices::sides::Sides;
+use choices::sides::{OpenSplit, Sides};
 use only_child::next::Next;
 use room::layout::HEADER;
-use rows::parts::{Made, Reached, Rest};
+use rows::parts::{DueRow, Made, Reached, Rest};
 use search::steps::Tails;
 use splits::split::split;
 
@@ -35,9 +35,14 @@ fn pick_after(
     }
     let mut k = 1;
     while k < most {
-        let made = split(
-            arities, room, at, rest, sides, tails, to, size, next, scratch,
-        );
+        let parent = OpenSplit {
+            from: at,
+            rest,
+            sides,
+            scratch,
+        };
+        let row = DueRow { to, size, next };
+        let made = split(arities, room, parent, tails, row);
         match made {
             Made::Dead => {
                 k += 1;
@@ -75,9 +80,14 @@ pub fn pick_from(
         return Next::Due(0);
     }
     let to = at + (size + HEADER);
-    let made = split(
-        arities, room, at, rest, sides, tails, to, size, next, scratch,
-    );
+    let parent = OpenSplit {
+        from: at,
+        rest,
+        sides,
+        scratch,
+    };
+    let row = DueRow { to, size, next };
+    let made = split(arities, room, parent, tails, row);
     match made {
         Made::Dead => pick_after(
             arities, room, at, rest, sides, tails, first, second, size, next, scratch, most,
