@@ -1,11 +1,9 @@
 -- Which words an answer adds to the lent ones, and what the running record becomes by it.
-use Rattle.std.specs.Prelude.{ℕ, ◌+◌, ◌-◌, ◌≤◌, ◌<◌, ◌^◌, ◌≡◌, Bool, cond, List, [], ◌∷◌, eqb, leb, length, get_or}
+use Rattle.std.specs.Prelude.{ℕ, ◌+◌, ◌-◌, ◌≤◌, ◌<◌, ◌^◌, ◌≡◌, Bool, cond, List, [], ◌∷◌, eqb, leb, length, get_or, Option, Some, None}
 use Rattle.room.specs.Room.{seg, put}
 use Rattle.room.specs.Layout.{HEADER}
 use Rattle.terms.specs.Answers.{listed}
 use Rattle.results.specs.declared.ran.Record.{Record}
-use Rattle.answer_record.specs.declared.Noted.{Noted}
-use Rattle.answer_record.specs.declared.Noted.TheVariants.{Held, Space}
 
 -- the answer's words: the number of bindings, from the row's header, and its body of n words
 unfoldable pub listed_by : List ℕ → ℕ → List ℕ
@@ -23,8 +21,8 @@ with_answers r ws = record { visited = r.visited; answers = r.answers + length w
 unfoldable pub fits : List (List ℕ) → (space : ℕ) → Record → Bool
 fits ws space r = leb (length (listed ws)) (space - r.words)
 
-unfoldable pub note_by : List (List ℕ) → (space : ℕ) → Record → Noted
-note_by ws space r = cond (fits ws space r) (Held (with_answers r ws)) Space
+unfoldable pub note_by : List (List ℕ) → (space : ℕ) → Record → Option Record
+note_by ws space r = cond (fits ws space r) (Some (with_answers r ws)) None
 
 unfoldable pub held_by : List (List ℕ) → List ℕ → Record → List ℕ
 held_by ws a r = cond (fits ws (length a) r) (put a r.words (listed ws)) a

@@ -14,14 +14,6 @@ use results::ran::Record;
 use room::layout::HEADER;
 use rows::first::read_header;
 
-// Whether a visited row's answer is held, if it is one.
-#[derive(Clone, Copy)]
-pub enum Noted {
-    Held(Record),
-    // its words don't fit what remains
-    Space,
-}
-
 // Lists the answer of the row's words, of whose body there are n, at the end of the words used.
 fn list_answer(row: &[u16], n: usize, answers: &mut [u16], used: usize)
     requires { (HEADER + n ≤ length row.now) × (used + 1 + n ≤ length answers.old) }
@@ -32,24 +24,24 @@ fn list_answer(row: &[u16], n: usize, answers: &mut [u16], used: usize)
     room::copy_in(answers, used + 1, &row[HEADER..end]);
 }
 
-// Notes the answer that the row's words are, if they are one.
-pub fn note(row: &[u16], answers: &mut [u16], counts: Record) -> Noted
+// Notes the answer that the row's words are, if they are one; `None` where its words don't fit what remains.
+pub fn note(row: &[u16], answers: &mut [u16], counts: Record) -> Option<Record>
     requires { Notable row.now answers.old counts }
     ensures value { result ≡ note_by (answer_in row.now) (length answers.old) counts }
     ensures answers_after { answers.new ≡ held_by (answer_in row.now) answers.old counts }
 {
     let header = read_header(&row[..5]);
     if 0 < header.pending {
-        return Noted::Held(counts);
+        return Some(counts);
     }
     if 0 < header.pile {
-        return Noted::Held(counts);
+        return Some(counts);
     }
     let n = header.body;
     let used = counts.words;
     if answers.len() - used < 1 + n {
-        return Noted::Space;
+        return None;
     }
     list_answer(row, n, answers, used);
-    Noted::Held(with_answer(counts, 1 + n))
+    Some(with_answer(counts, 1 + n))
 }

@@ -3,13 +3,14 @@ use Prim.Native.Nat.{ℕ, ◌+◌}
 use mathlib.Core.Path.{◌≡◌, sym}
 use mathlib.Core.Bool.{true}
 use mathlib.Core.List.{List}
+use Rattle.std.proofs.Common.{Option, Some}
 use native.Mathlib.Omega.{arith}
 use Rattle.search.specs.State.{State}
 use Rattle.only_child.specs.declared.next.Next.{Next}
 use Rattle.pick_loop.specs.Shown.{Opened, OpenedAt, Looks, Opens}
 use Rattle.children.specs.Looking.{Looking}
 
-module _ {arities l : List ℕ} {at level number size scratch most shown : ℕ} {st : State} (K : Looking arities l at level number size scratch most shown st) (own : shown ≡ level + 1) where
+module _ {arities l : List ℕ} {at level number size scratch most : ℕ} {shown : Option ℕ} {st : State} (K : Looking arities l at level number size scratch most shown st) (own : shown ≡ Some level) where
   abbrev last : ℕ
   last = (K.stands own).last
 

@@ -1,5 +1,5 @@
 -- What is asked of a row before its children are looked for: where its split stands open in scratch, the picks are those of the child before.
-use Rattle.std.specs.Prelude.{ℕ, ◌+◌, ◌≤◌, ◌≡◌, List}
+use Rattle.std.specs.Prelude.{ℕ, ◌+◌, ◌≤◌, ◌≡◌, List, Option, Some}
 use Rattle.search.specs.State.{State}
 use Rattle.search.specs.RunLimits.{most_depth}
 use Rattle.only_child.specs.Next.{Ready}
@@ -12,7 +12,7 @@ pub record Stands (l : List ℕ) (lent scratch : ℕ) (st : State) (child : ℕ)
   pub shown : Shown l lent scratch st last
 
 -- the children of a row of this level may be looked for; where the level is the one that is shown, the row's split stands open
-pub record Looking (arities l : List ℕ) (at level number size scratch most shown : ℕ) (st : State) : Type 0 where
+pub record Looking (arities l : List ℕ) (at level number size scratch most : ℕ) (shown : Option ℕ) (st : State) : Type 0 where
   pub level_small : level ≤ most_depth
   pub ready : Ready arities l at number size scratch most st
-  pub stands : shown ≡ level + 1 → Stands l size scratch st number
+  pub stands : shown ≡ Some level → Stands l size scratch st number

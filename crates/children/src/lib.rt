@@ -2,7 +2,7 @@
 // Crate `only_child` has the rows without a choice, and `openings` the splits.
 #![tactic(auto)]
 
-ghost use Rattle.std.specs.Prelude.{◌≡◌, true, ℕ, ◌+◌};
+ghost use Rattle.std.specs.Prelude.{◌≡◌, true, ℕ, ◌+◌, Some};
 ghost use Rattle.search.specs.State.{State};
 ghost use Rattle.only_child.specs.Next.{Ready};
 ghost use Rattle.pick_loop.specs.Shown.{Looks, Opened, OpenedAt, Opens};
@@ -132,13 +132,13 @@ pub fn look(
     size: usize,
     scratch: usize,
     most: usize,
-    shown: usize,
+    shown: Option<usize>,
 ) -> Looked
     requires { (st : State) × Looking arities.now room.old at level number size scratch most shown st }
     ensures looks { (st : State) → Looking arities.now room.old at level number size scratch most shown st → Looks room.old at number size scratch most st result room.new }
-    ensures opens_value { shown ≡ level + 1 → result.opens ≡ true }
+    ensures opens_value { shown ≡ Some level → result.opens ≡ true }
 {
-    if shown == level + 1 {
+    if shown == Some(level) {
         return Looked {
             next: next_pick(arities, room, at, size, scratch, most),
             opens: true,

@@ -1,7 +1,7 @@
 -- What is asked of a row before its next child is looked for, and what is told of its children from a number on: dead ends are passed, and the first
 -- child that is none is written to the next row.
-use Rattle.std.specs.Prelude.{ℕ, zero, suc, ◌+◌, ◌*◌, ◌≤◌, ◌<◌, ◌^◌, ◌≡◌, List, [], ◌∷◌, ◌++◌, length, drop}
-use Rattle.std.proofs.Common.{sym, ap, ◌∙◌}
+use Rattle.std.specs.Prelude.{ℕ, zero, suc, ◌+◌, ◌*◌, ◌≤◌, ◌<◌, ◌^◌, ◌≡◌, List, [], ◌∷◌, ◌++◌, length, drop, Option, Some, None}
+use Rattle.std.proofs.Common.{refl, sym, ap, ◌∙◌}
 use Rattle.room.specs.Room.{seg, seg-seg}
 use Rattle.room.specs.Layout.{stride}
 use Rattle.terms.specs.Bounds.{edition_one}
@@ -54,6 +54,11 @@ pub record Kept (l : List ℕ) (at number size scratch most : ℕ) (st : State) 
   pub child : Child l at number size most st a r
   pub keeps : seg r scratch (3 * stride size) ≡ seg l scratch (3 * stride size)
 
+-- what became of a node, where a dead end is none
+abbrev pub made_of : Option Reached → Made
+made_of None = Dead
+made_of (Some a) = of_reached a
+
 -- ---- a state that has one child
 
 -- what is told of the only child, by what became of it
@@ -62,6 +67,12 @@ next_made Dead = Spent 1
 next_made Names = Found 0 reached.Names
 next_made Large = Found 0 reached.Large
 next_made Live = Found 0 reached.Live
+
+pub next_reached : (a : Reached) → Found 0 a ≡ next_made (of_reached a)
+unfolding next_made of_reached
+next_reached reached.Names = refl
+next_reached reached.Large = refl
+next_reached reached.Live = refl
 
 -- a part of what is as it was
 pub same_part : (l r : List ℕ) (k n i j : ℕ) → i + j ≤ n → seg r k n ≡ seg l k n → seg r (k + i) j ≡ seg l (k + i) j

@@ -1,6 +1,6 @@
 // What is told of a row's children.
 ghost use Rattle.std.specs.Prelude.{◌≡◌};
-ghost use Rattle.only_child.specs.Next.{next_made};
+ghost use Rattle.only_child.specs.Next.{made_of, next_made};
 
 use rows::parts::{Made, Reached};
 
@@ -21,14 +21,24 @@ pub struct Looked {
     pub opens: bool,
 }
 
+// What became of a node, if it is no dead end.
+pub fn reached(made: Made) -> Option<Reached>
+    ensures { made ≡ made_of result }
+{
+    match made {
+        Made::Dead => None,
+        Made::Names => Some(Reached::Names),
+        Made::Large => Some(Reached::Large),
+        Made::Live => Some(Reached::Live),
+    }
+}
+
 // The only child of a row, by what became of it.
 pub fn told_of(made: Made) -> Next
     ensures { result ≡ next_made made }
 {
-    match made {
-        Made::Dead => Next::Spent(1),
-        Made::Names => Next::Node(0, Reached::Names),
-        Made::Large => Next::Node(0, Reached::Large),
-        Made::Live => Next::Node(0, Reached::Live),
+    match reached(made) {
+        None => Next::Spent(1),
+        Some(node) => Next::Node(0, node),
     }
 }

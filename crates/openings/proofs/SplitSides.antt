@@ -3,11 +3,10 @@ use Prim.Native.Nat.{ℕ, ◌+◌, ◌≤◌, ◌<◌}
 use mathlib.Core.Path.{◌≡◌, ◌∙◌}
 use mathlib.Core.List.{List, [], ◌∷◌}
 use native.Mathlib.Omega.{arith}
-use lib.ListN.{take}
 use Rattle.room.specs.Layout.{HEADER}
 use Rattle.terms.specs.Bounds.{edition_one}
 use Rattle.terms.specs.Term.{words, size}
-use Rattle.terms.specs.Formed.{Equation, row}
+use Rattle.terms.specs.Formed.{Equation}
 use Rattle.search.specs.State.{State, pend, size_equations, size_entries, size_bindings, state_size}
 use Rattle.search.specs.Classify.{tails}
 use Rattle.search.specs.Children.{children}

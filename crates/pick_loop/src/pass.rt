@@ -4,9 +4,9 @@ ghost use Rattle.pick_loop.specs.PicksInScratch.{Picks, PicksAt, Ended, EndedAt,
 
 use choices::picks::advance;
 use choices::sides::{OpenSplit, Sides};
-use only_child::next::Next;
+use only_child::next::{Next, reached};
 use room::layout::HEADER;
-use rows::parts::{DueRow, Made, Reached, Rest};
+use rows::parts::{DueRow, Rest};
 use search::steps::Tails;
 use splits::split::split;
 
@@ -33,29 +33,23 @@ fn pick_after(
     if !advance(room, sides.n, first, sides.m, second, picks) {
         return Next::Spent(1);
     }
-    let mut k = 1;
-    while k < most {
-        let parent = OpenSplit {
-            from: at,
-            rest,
-            sides,
-            scratch,
-        };
-        let row = DueRow { to, size, next };
+    let parent = OpenSplit {
+        from: at,
+        rest,
+        sides,
+        scratch,
+    };
+    let row = DueRow { to, size, next };
+    for k in 1..most {
         let made = split(arities, room, parent, tails, row);
-        match made {
-            Made::Dead => {
-                k += 1;
-                if !advance(room, sides.n, first, sides.m, second, picks) {
-                    return Next::Spent(k);
-                }
-            }
-            Made::Names => return Next::Node(k, Reached::Names),
-            Made::Large => return Next::Node(k, Reached::Large),
-            Made::Live => return Next::Node(k, Reached::Live),
+        if let Some(node) = reached(made) {
+            return Next::Node(k, node);
+        }
+        if !advance(room, sides.n, first, sides.m, second, picks) {
+            return Next::Spent(k + 1);
         }
     }
-    Next::Due(k)
+    Next::Due(most)
 }
 
 // The children from the one on whose picks stand in scratch. Most often that one is no dead end, and the loop is not reached.
@@ -88,12 +82,10 @@ pub fn pick_from(
     };
     let row = DueRow { to, size, next };
     let made = split(arities, room, parent, tails, row);
-    match made {
-        Made::Dead => pick_after(
+    match reached(made) {
+        None => pick_after(
             arities, room, at, rest, sides, tails, first, second, size, next, scratch, most,
         ),
-        Made::Names => Next::Node(0, Reached::Names),
-        Made::Large => Next::Node(0, Reached::Large),
-        Made::Live => Next::Node(0, Reached::Live),
+        Some(node) => Next::Node(0, node),
     }
 }

@@ -6,6 +6,7 @@ use native.Mathlib.Omega.{arith}
 use native.Mathlib.Nat.{zero-mul}
 use lib.Dec.{leb}
 use lib.ListN.{length, take}
+use Rattle.std.proofs.Common.{Option, Some, None}
 use borrow.Author.Tests.{leb-true, leb-false}
 use Rattle.room.specs.Room.{seg, length-put}
 use Rattle.room.specs.Parts.{row_within}
@@ -15,12 +16,10 @@ use Rattle.terms.specs.Answers.{listed}
 use Rattle.terms.specs.Lists.{cases}
 use Rattle.search.specs.declared.ends.End.TheVariants.{Space}
 use Rattle.search.specs.declared.limits.Limits.{Limits}
-use Rattle.search.specs.Run.{Visit, visit, found, found_size, root}
+use Rattle.search.specs.Run.{Visit, visit, found, found_size}
 use Rattle.search.specs.Verdicts.{allowed}
 use Rattle.search_laws.specs.Going.{Open, left, to_come}
 use Rattle.results.specs.declared.ran.Record.{Record}
-use Rattle.answer_record.specs.declared.Noted.{Noted}
-use Rattle.answer_record.specs.declared.Noted.TheVariants.{Held, Space as NoSpace}
 use Rattle.counters.specs.Counted.{counted}
 use Rattle.answer_record.specs.Noting.{with_answers, fits, answer_in, note_by, held_by, Notable}
 use Rattle.answer_record.specs.RowAnswer.{answer-held, held_notable}
@@ -28,7 +27,7 @@ use Rattle.results.specs.declared.ran.Ending.{Ending}
 use Rattle.search_turn.specs.Desk.{nothing_open}
 use Rattle.search_turn.specs.ChildrenPassed.{long_overflows}
 use Rattle.search_turn.specs.Path.{Row, no_rows, a_row, fresh_number}
-use Rattle.results.specs.Loans.{loan, needed, ending}
+use Rattle.results.specs.Loans.{loan, needed}
 use Rattle.search_turn.specs.Running.{Given, given, remains, Suits, Running, Ends}
 use Rattle.search_loop.specs.Root.{nothing, Rooted}
 use Rattle.search_turn.proofs.OpenedNode.{overflows_here, goes_here, more, then, one_at_most}
@@ -80,7 +79,7 @@ module _ {arities : List ℕ} {limits : Limits} {l a : List ℕ} {to : Given} (S
       rw zero-mul
       (record { holds = S.fresh.holds; number = fresh_number S.fresh; small = S.small; few = S.few; orderly = S.orderly; passed = omega arith })
 
-  begun : found_size edition_one v ≤ length a → Running arities limits l (then limits nothing a v vs) 0 0 (more limits nothing a v vs) to
+  begun : found_size edition_one v ≤ length a → Running arities limits l (then limits nothing a v vs) 0 None (more limits nothing a v vs) to
   unfolding with_answers found_size
   begun f =
       let p = length-put a 0 (listed (found edition_one v.answer)) in
@@ -99,7 +98,7 @@ module _ {arities : List ℕ} {limits : Limits} {l a : List ℕ} {to : Given} (S
         gives = went_on f;
       }
 
-  module _ {n : Noted} {last : List ℕ} {one : Record} (is_one : one ≡ counted nothing 1)
+  module _ {n : Option Record} {last : List ℕ} {one : Record} (is_one : one ≡ counted nothing 1)
       (told : (n ≡ note_by (answer_in first) (length a) one) × (last ≡ held_by (answer_in first) a one)) where
     noted_as : n ≡ note_by (found edition_one v.answer) (length a) (counted nothing 1)
     noted_as = told.0 ∙ rw (answer, is_one)
@@ -107,25 +106,25 @@ module _ {arities : List ℕ} {limits : Limits} {l a : List ℕ} {to : Given} (S
     held_as : last ≡ held_by (found edition_one v.answer) a (counted nothing 1)
     held_as = told.1 ∙ rw (answer, is_one)
 
-    pub root-held : {noted : Record} → n ≡ Held noted → Running arities limits l last 0 0 noted to
+    pub root-held : {noted : Record} → n ≡ Some noted → Running arities limits l last 0 None noted to
     unfolding note_by held_by fits found_size
     root-held {noted} h =
         cases (leb (length (listed (found edition_one v.answer))) (length a - 0))
         (λ t.
-        let same : Held noted ≡ Held (more limits nothing a v vs) = sym h ∙ noted_as ∙ rw t in
+        let same : Some noted ≡ Some (more limits nothing a v vs) = sym h ∙ noted_as ∙ rw t in
         let is : noted ≡ more limits nothing a v vs = cc in
         let list : last ≡ then limits nothing a v vs = held_as ∙ rw t in
         rw (is, list) (begun (omega (arith, leb-true (length (listed (found edition_one v.answer))) (length a - 0) t))))
         (λ f.
-        let never : ◌≡◌ {A = Noted} (Held noted) NoSpace = sym h ∙ noted_as ∙ rw f in
+        let never : ◌≡◌ {A = Option Record} (Some noted) None = sym h ∙ noted_as ∙ rw f in
         let z : ◌≡◌ {A = ℕ} 0 1 = cc in absurd (omega arith))
 
-    pub root_space : n ≡ NoSpace → Ends to (record { end = Space; counts = one }) last
+    pub root_space : n ≡ None → Ends to (record { end = Space; counts = one }) last
     unfolding note_by held_by fits found_size
     root_space h =
         cases (leb (length (listed (found edition_one v.answer))) (length a - 0))
         (λ t.
-        let never : ◌≡◌ {A = Noted} NoSpace (Held (with_answers (counted nothing 1) (found edition_one v.answer))) = sym h ∙ noted_as ∙ rw t in
+        let never : ◌≡◌ {A = Option Record} None (Some (with_answers (counted nothing 1) (found edition_one v.answer))) = sym h ∙ noted_as ∙ rw t in
         let z : ◌≡◌ {A = ℕ} 0 1 = cc in absurd (omega arith))
         (λ f.
         let list : last ≡ a = held_as ∙ rw f in

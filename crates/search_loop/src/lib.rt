@@ -3,18 +3,20 @@
 // In specs/, `Root` says what the row holds, and when it is the first node of a run.
 #![tactic(auto)]
 
+ghost use Rattle.std.specs.Prelude.{None};
 ghost use Rattle.search_turn.specs.Running.{Given, Running, Ends};
 ghost use Rattle.search_loop.specs.Root.{Rooted};
 
 pub mod row;
 
-use answer_record::{Noted, note};
+use answer_record::note;
 use results::ran::{Ending, Record};
 use room::layout::HEADER;
 use search::ends::End;
 use search::limits::Limits;
 use search_turn::turn::take_turn;
-use visits::node::Turn;
+use std::ops::ControlFlow;
+use visits::node::Place;
 
 // The search from its first row on, turn by turn.
 fn search_on(
@@ -24,24 +26,30 @@ fn search_on(
     room: &mut [u16],
     first: Record,
 ) -> Ending
-    requires { (to : Given) × Running arities.now limits room.old answers.old 0 0 first to }
-    ensures { (to : Given) → Running arities.now limits room.old answers.old 0 0 first to → Ends to result answers.new }
+    requires { (to : Given) × Running arities.now limits room.old answers.old 0 None first to }
+    ensures { (to : Given) → Running arities.now limits room.old answers.old 0 None first to → Ends to result answers.new }
 {
-    let mut level = 0;
-    let mut counts = first;
-    let mut shown = 0;
+    let mut place = Place {
+        level: 0,
+        counts: first,
+    };
+    let mut shown = None;
     loop {
-        let taken = take_turn(arities, limits, answers, room, level, counts, shown);
-        shown = taken.shown;
-        let turn = taken.turn;
-        match turn {
-            Turn::At(next, more) => {
-                level = next;
-                counts = more;
+        let taken = take_turn(
+            arities,
+            limits,
+            answers,
+            room,
+            place.level,
+            place.counts,
+            shown,
+        );
+        match taken.turn {
+            ControlFlow::Continue(next) => {
+                place = next;
+                shown = taken.shown;
             }
-            Turn::End(ending) => {
-                return ending;
-            }
+            ControlFlow::Break(ending) => return ending,
         }
     }
 }
@@ -58,8 +66,8 @@ pub fn enter_root(arities: &[u8], limits: Limits, answers: &mut [u16], room: &mu
     };
     let end = limits.size + HEADER;
     match note(&room[..end], answers, one) {
-        Noted::Held(noted) => search_on(arities, limits, answers, room, noted),
-        Noted::Space => Ending {
+        Some(noted) => search_on(arities, limits, answers, room, noted),
+        None => Ending {
             end: End::Space,
             counts: one,
         },

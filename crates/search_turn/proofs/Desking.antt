@@ -4,6 +4,7 @@ use Prim.Native.Nat.{ℕ, suc, ◌+◌, ◌*◌}
 use mathlib.Core.Path.{◌≡◌, sym, ap, ◌∙◌}
 use mathlib.Core.Bool.{true, false, cond}
 use mathlib.Core.List.{List, ◌∷◌}
+use Rattle.std.proofs.Common.{Option, Some, None}
 use native.Mathlib.Omega.{arith}
 use Rattle.room.specs.Layout.{stride}
 use Rattle.search.specs.declared.limits.Limits.{Limits}
@@ -19,7 +20,7 @@ use Rattle.search_turn.specs.Running.{Given, Running, scratch_of}
 use Rattle.search_turn.proofs.GoesOn.{rows_above, ready}
 use Rattle.terms.specs.Lists.{cases}
 
-module _ {arities : List ℕ} {limits : Limits} {l a : List ℕ} {level shown : ℕ} {r : Record} {to : Given} (R : Running arities limits l a level shown r to) where
+module _ {arities : List ℕ} {limits : Limits} {l a : List ℕ} {level : ℕ} {shown : Option ℕ} {r : Record} {to : Given} (R : Running arities limits l a level shown r to) where
   abbrev at : ℕ
   at = level * stride limits.size
 
@@ -27,20 +28,20 @@ module _ {arities : List ℕ} {limits : Limits} {l a : List ℕ} {level shown : 
   looking = record {
     level_small = omega (arith, R.deep, R.suits.depth);
     ready = ready R;
-    stands = λ e. desk_here R.desk (e ∙ ap (λ (n : ℕ). n + 1) (sym R.levels));
+    stands = λ e. desk_here R.desk (e ∙ ap Some (sym R.levels));
   }
 
-  module _ {x : Looked} {l₁ : List ℕ} (L : Looks l at R.top.child limits.size (scratch_of limits) (most_of limits level r) R.top.state x l₁) (own : shown ≡ level + 1 → x.opens ≡ true) where
+  module _ {x : Looked} {l₁ : List ℕ} (L : Looks l at R.top.child limits.size (scratch_of limits) (most_of limits level r) R.top.state x l₁) (own : shown ≡ Some level → x.opens ≡ true) where
     still_open : x.opens ≡ false → Desk l₁ limits.size (scratch_of limits) R.above shown
     still_open f =
         desk_kept (L.keeps f) (rows_above R.rows)
-        (desk_above R.desk (λ e. let t = own (e ∙ ap (λ (n : ℕ). n + 1) R.levels) in let z : ◌≡◌ {A = ℕ} 0 1 = cc in omega arith))
+        (desk_above R.desk (λ e. let t = own (e ∙ ap Some R.levels) in let z : ◌≡◌ {A = ℕ} 0 1 = cc in omega arith))
 
-    pub open_then_spent : Desk l₁ limits.size (scratch_of limits) R.above (cond x.opens 0 shown)
+    pub open_then_spent : Desk l₁ limits.size (scratch_of limits) R.above (cond x.opens None shown)
     open_then_spent = cases x.opens (λ t. rw t nothing_open) (λ f. rw f (still_open f))
 
     pub open_then_live : {k : ℕ} → x.next ≡ Found k Live
-        → Desk l₁ limits.size (scratch_of limits) (record { state = R.top.state; child = suc (R.top.child + k) } ∷ R.above) (cond x.opens (level + 1) shown)
+        → Desk l₁ limits.size (scratch_of limits) (record { state = R.top.state; child = suc (R.top.child + k) } ∷ R.above) (cond x.opens (Some level) shown)
     open_then_live {k} e =
         cases x.opens
         (λ t. rw (t, sym R.levels) (open_here {o = record { state = R.top.state; child = suc (R.top.child + k) }} (record { last = R.top.child + k; after = omega arith; shown = (L.opens t).shown k e })))

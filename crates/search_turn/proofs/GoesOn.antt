@@ -2,6 +2,7 @@
 use Prim.Native.Nat.{ℕ, zero, suc, ◌+◌, ◌*◌, ◌-◌, ◌≤◌, ◌<◌}
 use mathlib.Core.Path.{◌≡◌, sym, ap, ◌∙◌}
 use mathlib.Core.List.{List, ◌∷◌, ◌++◌}
+use Rattle.std.proofs.Common.{Option}
 use native.Mathlib.Omega.{arith}
 use native.Mathlib.Nat.{suc-mul, add-zero, mul-le-mul, add-mul}
 use lib.Dec.{leb}
@@ -59,7 +60,7 @@ needed_rows limits =
     rows_in_all : (d : ℕ) → d + 1 + 7 ≡ d + HEADER
     rows_in_all d = omega arith
 
-module _ {arities : List ℕ} {limits : Limits} {l a : List ℕ} {level shown : ℕ} {r : Record} {to : Given} (R : Running arities limits l a level shown r to) where
+module _ {arities : List ℕ} {limits : Limits} {l a : List ℕ} {level : ℕ} {shown : Option ℕ} {r : Record} {to : Given} (R : Running arities limits l a level shown r to) where
   pub row_here : Row arities limits.size r.visited l (level * stride limits.size) R.top
   row_here = rw R.levels at (top-row R.rows)
 

@@ -3,6 +3,7 @@ use Prim.Native.Nat.{ℕ, ◌+◌, ◌*◌, ◌-◌, ◌≤◌}
 use mathlib.Core.Path.{◌≡◌, ap, ◌∙◌}
 use mathlib.Core.Bool.{true, cond}
 use mathlib.Core.List.{List}
+use Rattle.std.proofs.Common.{Option, Some, None, Break}
 use native.Mathlib.Omega.{arith}
 use lib.ListN.{length, take, drop}
 use Rattle.room.specs.Room.{seg}
@@ -17,12 +18,10 @@ use Rattle.counters.specs.Counted.{counted}
 use Rattle.only_child.specs.declared.next.Looked.{Looked}
 use Rattle.only_child.specs.declared.next.Next.TheVariants.{Spent, Node as Found, Due}
 use Rattle.results.specs.declared.ran.Ending.{Ending}
-use Rattle.visits.specs.declared.node.Turn.{Turn}
-use Rattle.visits.specs.declared.node.Turn.TheVariants.{End}
 use Rattle.pick_loop.specs.Shown.{Looks}
 use Rattle.children.specs.Looking.{Looking}
 use Rattle.visits.specs.ChildNumber.{number_of, number_words, number-back}
-use Rattle.visits.specs.DueNode.{OpenParts, most_of, back_to, due_ending, node_turn, node_room, node_answers}
+use Rattle.visits.specs.DueNode.{Turn, OpenParts, most_of, back_to, due_ending, node_turn, node_room, node_answers}
 use Rattle.search_turn.specs.Running.{Given, scratch_of, Running, Turned}
 use Rattle.search_turn.proofs.Desking.{looking, open_then_spent, open_then_live}
 use Rattle.search_turn.proofs.OpenedNode.{live_parts, turned_live}
@@ -30,7 +29,7 @@ use Rattle.search_turn.proofs.UnopenedNode.{turned_names, turned_large}
 use Rattle.search_turn.proofs.GoesOn.{row_here}
 use Rattle.search_turn.proofs.Turning.{Told, told_few, due_few, node_few, turned_spent, turned_due}
 
-module _ {arities : List ℕ} {limits : Limits} {l a : List ℕ} {level shown : ℕ} {r : Record} {to : Given} (R : Running arities limits l a level shown r to) where
+module _ {arities : List ℕ} {limits : Limits} {l a : List ℕ} {level : ℕ} {shown : Option ℕ} {r : Record} {to : Given} (R : Running arities limits l a level shown r to) where
   abbrev at : ℕ
   at = level * stride limits.size
 
@@ -47,7 +46,7 @@ module _ {arities : List ℕ} {limits : Limits} {l a : List ℕ} {level shown : 
     asks = rw (is_number, is_most) (looking R)
 
     module _ {x : Looked} {l₁ : List ℕ}
-        (says : ((st : State) → Looking arities l at level n limits.size (scratch_of limits) m shown st → Looks l at n limits.size (scratch_of limits) m st x l₁) × (shown ≡ level + 1 → x.opens ≡ true)) where
+        (says : ((st : State) → Looking arities l at level n limits.size (scratch_of limits) m shown st → Looks l at n limits.size (scratch_of limits) m st x l₁) × (shown ≡ Some level → x.opens ≡ true)) where
       looks : Looks l at R.top.child limits.size (scratch_of limits) (most_of limits level r) R.top.state x l₁
       looks = rw (is_number, is_most) at (says.0 R.top.state asks)
 
@@ -66,23 +65,23 @@ module _ {arities : List ℕ} {limits : Limits} {l a : List ℕ} {level shown : 
           let p = (row_here R).passed in
           (omega (arith, R.steps, R.suits.steps), omega (arith, R.steps, R.suits.steps))
 
-      pub hears_spent : {k shown₁ : ℕ} {t : Turn} {c : Record} → x.next ≡ Spent k → c ≡ counted r k → t ≡ back_to level c → shown₁ ≡ cond x.opens 0 shown → Turned arities limits l₁ a level r to t shown₁
+      pub hears_spent : {k : ℕ} {shown₁ : Option ℕ} {t : Turn} {c : Record} → x.next ≡ Spent k → c ≡ counted r k → t ≡ back_to level c → shown₁ ≡ cond x.opens None shown → Turned arities limits l₁ a level r to t shown₁
       hears_spent e f g s = rw (g, f, s) (turned_spent R (rw e at heard) (open_then_spent R looks says.1))
 
-      pub hears_due : {k shown₁ : ℕ} {d : Ending} {c : Record} → x.next ≡ Due k → c ≡ counted r k → d ≡ due_ending limits c → Turned arities limits l₁ a level r to (End d) shown₁
+      pub hears_due : {k : ℕ} {shown₁ : Option ℕ} {d : Ending} {c : Record} → x.next ≡ Due k → c ≡ counted r k → d ≡ due_ending limits c → Turned arities limits l₁ a level r to (Break d) shown₁
       hears_due e f g = rw (g, f) (turned_due R (rw e at heard))
 
       pub hears_parts : {k : ℕ} {node : Reached} {c : Record} → x.next ≡ Found k node → c ≡ counted r k → node ≡ Live → OpenParts limits level l₁ a c (n + k)
       hears_parts {k} {node} e f g = rw (f, is_number) (live_parts R (rw (e, g) at heard))
 
       by_node : {k : ℕ} (node : Reached) → x.next ≡ Found k node → Told R (Found k node) l₁
-          → Turned arities limits (node_room limits level l₁ (R.top.child + k) node) (node_answers limits level l₁ a (counted r k) node) level r to (node_turn limits level l₁ (length a) (counted r k) node) (cond x.opens (level + 1) shown)
+          → Turned arities limits (node_room limits level l₁ (R.top.child + k) node) (node_answers limits level l₁ a (counted r k) node) level r to (node_turn limits level l₁ (length a) (counted r k) node) (cond x.opens (Some level) shown)
       unfolding node_room node_answers node_turn
       by_node ManyNames e C = turned_names R C
       by_node Large e C = turned_large R C
       by_node Live e C = turned_live R C (open_then_live R looks says.1 e)
 
-      pub hears_node : {k shown₁ : ℕ} {node : Reached} {c : Record} {t : Turn} {l₂ a₂ : List ℕ} → x.next ≡ Found k node → c ≡ counted r k
+      pub hears_node : {k : ℕ} {shown₁ : Option ℕ} {node : Reached} {c : Record} {t : Turn} {l₂ a₂ : List ℕ} → x.next ≡ Found k node → c ≡ counted r k
           → (t ≡ node_turn limits level l₁ (length a) c node) × ((l₂ ≡ node_room limits level l₁ (n + k) node) × (a₂ ≡ node_answers limits level l₁ a c node))
-          → shown₁ ≡ cond x.opens (level + 1) shown → Turned arities limits l₂ a₂ level r to t shown₁
+          → shown₁ ≡ cond x.opens (Some level) shown → Turned arities limits l₂ a₂ level r to t shown₁
       hears_node {k} {node = node} e f g s = rw (g.0, g.1.0, g.1.1, f, s, is_number) (by_node node e (rw e at heard))

@@ -2,6 +2,7 @@
 use Prim.Native.Nat.{ℕ, zero, suc, ◌+◌, ◌*◌, ◌-◌, ◌≤◌, ◌<◌}
 use mathlib.Core.Path.{◌≡◌, refl, sym, ap, ◌∙◌}
 use mathlib.Core.List.{List, [], ◌∷◌, ◌++◌}
+use Rattle.std.proofs.Common.{Option}
 use native.Mathlib.Omega.{arith}
 use native.Mathlib.Nat.{suc-mul, add-zero}
 use native.Mathlib.Numerals.{add-one}
@@ -92,7 +93,7 @@ child_of (suc c) (both h hs) e = child_of c hs e
 live_orderly : {arities : List ℕ} {st : State} → IsLive (Orderly arities) (live st) → Orderly arities st
 live_orderly (is_live o) = o
 
-module _ {arities : List ℕ} {limits : Limits} {l a : List ℕ} {level shown : ℕ} {r : Record} {to : Given} (R : Running arities limits l a level shown r to) {k : ℕ} {l₁ : List ℕ}
+module _ {arities : List ℕ} {limits : Limits} {l a : List ℕ} {level : ℕ} {shown : Option ℕ} {r : Record} {to : Given} (R : Running arities limits l a level shown r to) {k : ℕ} {l₁ : List ℕ}
     (long : length l₁ ≡ length l) (below : seg l₁ 0 (child_place limits level) ≡ seg l 0 (child_place limits level)) (next : State) (rest : List Node)
     (h : k < most_of limits level r) (e : drop R.top.child (children R.top.state) ≡ dead_ends k ++ (live next ∷ rest))
     (M : Makes edition_one l (child_place limits level) limits.size (live next) (of_reached Live) l₁) where
@@ -191,7 +192,7 @@ module _ {arities : List ℕ} {limits : Limits} {l a : List ℕ} {level shown : 
 
   -- ---- the split that stands open
 
-  child_desk : {shown₁ : ℕ} → Desk l₁ limits.size (scratch_of limits) (here ∷ R.above) shown₁
+  child_desk : {shown₁ : Option ℕ} → Desk l₁ limits.size (scratch_of limits) (here ∷ R.above) shown₁
       → Desk l₂ limits.size (scratch_of limits) (record { state = next; child = 0 } ∷ here ∷ R.above) shown₁
   child_desk D =
       open_above
@@ -221,7 +222,7 @@ module _ {arities : List ℕ} {limits : Limits} {l a : List ℕ} {level shown : 
       (allowed edition_one (left (loan limits (length a)) (r.visited + k) r.words) v
       (record { steps = left_now.0; depth = left_now.1; names = few; size = small; space = f }))
 
-  goes_below : {shown₁ : ℕ} → Desk l₁ limits.size (scratch_of limits) (here ∷ R.above) shown₁ → found_size edition_one v ≤ length a - r.words
+  goes_below : {shown₁ : Option ℕ} → Desk l₁ limits.size (scratch_of limits) (here ∷ R.above) shown₁ → found_size edition_one v ≤ length a - r.words
       → Running arities limits l₂ (then limits (counted r k) a v deeper) (level + 1) shown₁ (more limits (counted r k) a v deeper) to
   unfolding with_answers found_size
   goes_below D f =
@@ -241,17 +242,17 @@ module _ {arities : List ℕ} {limits : Limits} {l a : List ℕ} {level shown : 
         gives = went_on f;
       }
 
-  pub turned_open : {shown₁ : ℕ} → Desk l₁ limits.size (scratch_of limits) (here ∷ R.above) shown₁
+  pub turned_open : {shown₁ : Option ℕ} → Desk l₁ limits.size (scratch_of limits) (here ∷ R.above) shown₁
       → Turned arities limits (node_room limits level l₁ (R.top.child + k) Live) (node_answers limits level l₁ a (counted r k) Live) level r to
       (node_turn limits level l₁ (length a) (counted r k) Live) shown₁
   unfolding node_room node_answers node_turn noted_turn note_by held_by fits found_size with_answers
   turned_open D =
       rw answer
       (cases (leb (length (listed (found edition_one v.answer))) (length a - r.words))
-      (λ t. rw t (goes {deeper = level + 1} {more = more limits (counted r k) a v deeper} (goes_below D (leb-true _ _ t)) (omega arith)))
+      (λ t. rw t (goes {p = record { level = level + 1; counts = more limits (counted r k) a v deeper }} (goes_below D (leb-true _ _ t)) (omega arith)))
       (λ f. rw f (ends (overflowed (leb-false _ _ f)))))
 
-module _ {arities : List ℕ} {limits : Limits} {l a : List ℕ} {level shown : ℕ} {r : Record} {to : Given} (R : Running arities limits l a level shown r to) {k : ℕ} {l₁ : List ℕ}
+module _ {arities : List ℕ} {limits : Limits} {l a : List ℕ} {level : ℕ} {shown : Option ℕ} {r : Record} {to : Given} (R : Running arities limits l a level shown r to) {k : ℕ} {l₁ : List ℕ}
     (C : Told R (Found k Live) l₁) where
   pub live_parts : OpenParts limits level l₁ a (counted r k) (R.top.child + k)
   live_parts = go C.tells
@@ -260,7 +261,7 @@ module _ {arities : List ℕ} {limits : Limits} {l a : List ℕ} {level shown : 
           → OpenParts limits level l₁ a (counted r k) (R.top.child + k)
       go (then_live next rest h e M) = open_parts R C.long C.below next rest h e M
 
-  pub turned_live : {shown₁ : ℕ} → Desk l₁ limits.size (scratch_of limits) (record { state = R.top.state; child = suc (R.top.child + k) } ∷ R.above) shown₁
+  pub turned_live : {shown₁ : Option ℕ} → Desk l₁ limits.size (scratch_of limits) (record { state = R.top.state; child = suc (R.top.child + k) } ∷ R.above) shown₁
       → Turned arities limits (node_room limits level l₁ (R.top.child + k) Live) (node_answers limits level l₁ a (counted r k) Live) level r to
       (node_turn limits level l₁ (length a) (counted r k) Live) shown₁
   turned_live {shown₁} D = go C.tells

@@ -2,6 +2,7 @@
 use Prim.Native.Nat.{ℕ, zero, suc, ◌+◌, ◌*◌, ◌-◌, ◌≤◌, ◌<◌}
 use mathlib.Core.Path.{◌≡◌, refl, sym, ap, ◌∙◌}
 use mathlib.Core.List.{List, [], ◌∷◌}
+use Rattle.std.proofs.Common.{Option, Break}
 use native.Mathlib.Omega.{arith}
 use native.Mathlib.Nat.{add-zero}
 use lib.Dec.{leb}
@@ -25,7 +26,6 @@ use Rattle.results.specs.declared.ran.Record.{Record}
 use Rattle.counters.specs.Counted.{counted}
 use Rattle.only_child.specs.declared.next.Next.{Next}
 use Rattle.only_child.specs.declared.next.Next.TheVariants.{Spent, Node as Found, Due}
-use Rattle.visits.specs.declared.node.Turn.TheVariants.{End}
 use Rattle.only_child.specs.Next.{Tells, all_dead, then_live, then_due, Child}
 use Rattle.search_turn.specs.Desk.{Desk}
 use Rattle.search_turn.specs.ChildrenPassed.{spent_stops, deep_stops}
@@ -84,7 +84,7 @@ live_depth d st = refl
 pub suits_kept : {arities : List ℕ} {limits : Limits} {l r : List ℕ} → length r ≡ length l → Suits arities limits l → Suits arities limits r
 suits_kept e S = record { steps = S.steps; depth = S.depth; size = S.size; table = S.table; room = rw e S.room; short = rw e S.short }
 
-module _ {arities : List ℕ} {limits : Limits} {l a : List ℕ} {level shown : ℕ} {r : Record} {to : Given} (R : Running arities limits l a level shown r to) where
+module _ {arities : List ℕ} {limits : Limits} {l a : List ℕ} {level : ℕ} {shown : Option ℕ} {r : Record} {to : Given} (R : Running arities limits l a level shown r to) where
   abbrev pub most : ℕ
   most = most_of limits level r
 
@@ -110,7 +110,7 @@ module _ {arities : List ℕ} {limits : Limits} {l a : List ℕ} {level shown : 
       go (then_live next rest h e M) = omega (arith, most_few limits level r)
 
   -- no child is left
-  pub turned_spent : {k shown₁ : ℕ} {l₁ : List ℕ} → Told (Spent k) l₁ → Desk l₁ limits.size (scratch_of limits) R.above shown₁ → Turned arities limits l₁ a level r to (back_to level (counted r k)) shown₁
+  pub turned_spent : {k : ℕ} {shown₁ : Option ℕ} {l₁ : List ℕ} → Told (Spent k) l₁ → Desk l₁ limits.size (scratch_of limits) R.above shown₁ → Turned arities limits l₁ a level r to (back_to level (counted r k)) shown₁
   unfolding back_to
   turned_spent {k} {shown₁} {l₁} C D = go C.tells
     where
@@ -123,7 +123,7 @@ module _ {arities : List ℕ} {limits : Limits} {l a : List ℕ} {level shown : 
       up (o ∷ path) zero e Rs S w d f same g = absurd (omega arith)
       up (o ∷ path) (suc n) e Rs S w d f same g =
           rw (ne_eqb (suc n) 0 (λ z. omega arith))
-          (goes {deeper = suc n - 1} {more = counted r k}
+          (goes {p = record { level = suc n - 1; counts = counted r k }}
           (record {
             suits = suits_kept C.long R.suits;
             top = o;
@@ -148,16 +148,16 @@ module _ {arities : List ℕ} {limits : Limits} {l a : List ℕ} {level shown : 
           ∙ ap (λ vs. given (counted r k) a (remains limits (counted r k) (length a) vs)) (to_come_spent limits.depth R.top.state R.above (R.top.child + k) p.0))
 
   -- a child is due that may not be opened
-  pub turned_due : {k shown₁ : ℕ} {l₁ : List ℕ} → Told (Due k) l₁ → Turned arities limits l₁ a level r to (End (due_ending limits (counted r k))) shown₁
+  pub turned_due : {k : ℕ} {shown₁ : Option ℕ} {l₁ : List ℕ} → Told (Due k) l₁ → Turned arities limits l₁ a level r to (Break (due_ending limits (counted r k))) shown₁
   turned_due {k} {shown₁} {l₁} C = go C.tells
     where
       at_node : (v : Visit) (vs : List Visit) → v.depth ≡ suc level → k ≡ most
-          → to ≡ given (counted r k) a (remains limits (counted r k) (length a) (v ∷ vs)) → Turned arities limits l₁ a level r to (End (due_ending limits (counted r k))) shown₁
+          → to ≡ given (counted r k) a (remains limits (counted r k) (length a) (v ∷ vs)) → Turned arities limits l₁ a level r to (Break (due_ending limits (counted r k))) shown₁
       at_node v vs d h g = ends (g ∙ due_stops limits level r a k v vs d h R.steps)
 
       by_node : (node : Node) (rest : List Node) → drop (R.top.child + k) (children R.top.state) ≡ node ∷ rest → k ≡ most
           → to ≡ given (counted r k) a (remains limits (counted r k) (length a) (to_come limits.depth (record { state = R.top.state; child = R.top.child + k } ∷ R.above)))
-          → Turned arities limits l₁ a level r to (End (due_ending limits (counted r k))) shown₁
+          → Turned arities limits l₁ a level r to (Break (due_ending limits (counted r k))) shown₁
       by_node dead rest e h g =
           at_node (dead_visit (suc (length R.above))) _ (dead_depth _ ∙ ap suc R.levels) h
           (g ∙ ap (λ vs. given (counted r k) a (remains limits (counted r k) (length a) vs))
@@ -168,5 +168,5 @@ module _ {arities : List ℕ} {limits : Limits} {l a : List ℕ} {level shown : 
           (to_come_live limits.depth R.top.state R.above (R.top.child + k) next rest e (drop-next (R.top.child + k) (children R.top.state) _ _ e) (omega (arith, R.levels, R.deep))))
 
       go : {l₂ : List ℕ} → Tells l (level * stride limits.size + stride limits.size) limits.size (drop R.top.child (children R.top.state)) most l₂ (Due k)
-          → Turned arities limits l₁ a level r to (End (due_ending limits (counted r k))) shown₁
+          → Turned arities limits l₁ a level r to (Break (due_ending limits (counted r k))) shown₁
       go (then_due node rest h e) = let p = passed R k (omega arith) e in by_node node rest p.0 h p.1

@@ -2,6 +2,7 @@
 use Prim.Native.Nat.{ℕ, suc, ◌+◌, ◌*◌, ◌≤◌, ◌<◌}
 use mathlib.Core.Path.{◌≡◌, ap, ◌∙◌}
 use mathlib.Core.List.{List, ◌∷◌, ◌++◌}
+use Rattle.std.proofs.Common.{Option, Break}
 use native.Mathlib.Omega.{arith}
 use lib.ListN.{length, drop}
 use Rattle.room.specs.Layout.{stride}
@@ -20,7 +21,6 @@ use Rattle.counters.specs.Counted.{counted}
 use Rattle.only_child.specs.declared.next.Next.TheVariants.{Node as Found}
 use Rattle.only_child.specs.Became.{many_names, few_names, too_large}
 use Rattle.only_child.specs.Next.{dead_ends, Tells, then_live}
-use Rattle.visits.specs.declared.node.Turn.TheVariants.{End}
 use Rattle.search_turn.specs.ChildrenPassed.{names_stop, large_stops}
 use Rattle.results.specs.Loans.{loan}
 use Rattle.visits.specs.DueNode.{most_of}
@@ -28,7 +28,7 @@ use Rattle.search_turn.specs.Running.{Given, given, remains, Running, Turned, en
 use Rattle.search_turn.proofs.GoesOn.{passed, most_few, most-deep}
 use Rattle.search_turn.proofs.Turning.{stops_here, Told}
 
-module _ {arities : List ℕ} {limits : Limits} {l a : List ℕ} {level shown : ℕ} {r : Record} {to : Given} (R : Running arities limits l a level shown r to) where
+module _ {arities : List ℕ} {limits : Limits} {l a : List ℕ} {level : ℕ} {shown : Option ℕ} {r : Record} {to : Given} (R : Running arities limits l a level shown r to) where
   abbrev pub next_visit : State → Visit
   next_visit next = visit (suc (length R.above)) next
 
@@ -51,23 +51,23 @@ module _ {arities : List ℕ} {limits : Limits} {l a : List ℕ} {level shown : 
   unfolding left loan
   open_to k h = (omega (arith, most_few limits level r), omega (arith, most-deep limits level r (omega arith), R.levels))
 
-  pub turned_names : {k shown₁ : ℕ} {l₁ : List ℕ} → Told R (Found k ManyNames) l₁ → Turned arities limits l₁ a level r to (End (record { end = Names; counts = counted r k })) shown₁
+  pub turned_names : {k : ℕ} {shown₁ : Option ℕ} {l₁ : List ℕ} → Told R (Found k ManyNames) l₁ → Turned arities limits l₁ a level r to (Break (record { end = Names; counts = counted r k })) shown₁
   unfolding visit of_reached
   turned_names {k} {shown₁} {l₁} C = go C.tells
     where
       go : {l₂ : List ℕ} → Tells l (level * stride limits.size + stride limits.size) limits.size (drop R.top.child (children R.top.state)) (most_of limits level r) l₂ (Found k ManyNames)
-          → Turned arities limits l₁ a level r to (End (record { end = Names; counts = counted r k })) shown₁
+          → Turned arities limits l₁ a level r to (Break (record { end = Names; counts = counted r k })) shown₁
       go (then_live next rest h e M) =
           let o = open_to k h in
           ends (met next rest k h e ∙ stops_here limits (counted r k) a (next_visit next) _ Names
           (names_stop edition_one (left (loan limits (length a)) (r.visited + k) r.words) (next_visit next) o.0 o.1 (many_names edition_one limits.size next M.tells)))
 
-  pub turned_large : {k shown₁ : ℕ} {l₁ : List ℕ} → Told R (Found k Large) l₁ → Turned arities limits l₁ a level r to (End (record { end = Size; counts = counted r k })) shown₁
+  pub turned_large : {k : ℕ} {shown₁ : Option ℕ} {l₁ : List ℕ} → Told R (Found k Large) l₁ → Turned arities limits l₁ a level r to (Break (record { end = Size; counts = counted r k })) shown₁
   unfolding visit left loan of_reached
   turned_large {k} {shown₁} {l₁} C = go C.tells
     where
       go : {l₂ : List ℕ} → Tells l (level * stride limits.size + stride limits.size) limits.size (drop R.top.child (children R.top.state)) (most_of limits level r) l₂ (Found k Large)
-          → Turned arities limits l₁ a level r to (End (record { end = Size; counts = counted r k })) shown₁
+          → Turned arities limits l₁ a level r to (Break (record { end = Size; counts = counted r k })) shown₁
       go (then_live next rest h e M) =
           let o = open_to k h in
           let n = few_names edition_one limits.size next M.tells (λ q. let z : ◌≡◌ {A = ℕ} 0 1 = cc in omega arith) in

@@ -1,6 +1,7 @@
 -- A search that goes on: the rows of the room hold a path, a split of one of them may stand open in scratch, and what the whole run gives is what is
 -- counted and listed so far, and the run over the visits still to come. After a turn it goes on, with less before it, or has ended.
-use Rattle.std.specs.Prelude.{ℕ, ◌+◌, ◌*◌, ◌≤◌, ◌<◌, ◌^◌, ◌≡◌, List, [], ◌∷◌, length}
+use Rattle.std.specs.Prelude.{ℕ, ◌+◌, ◌*◌, ◌≤◌, ◌<◌, ◌^◌, ◌≡◌, List, [], ◌∷◌, length, Option}
+use Rattle.std.proofs.Common.{Continue, Break}
 use Rattle.room.specs.Room.{put}
 use Rattle.room.specs.Layout.{stride}
 use Rattle.terms.specs.Bounds.{edition_one}
@@ -12,8 +13,8 @@ use Rattle.search.specs.RunLimits.{most_steps, most_depth, most_size}
 use Rattle.search_laws.specs.Going.{Open, resumed, left, to_come}
 use Rattle.results.specs.declared.ran.Record.{Record}
 use Rattle.results.specs.declared.ran.Ending.{Ending}
-use Rattle.visits.specs.declared.node.Turn.{Turn}
-use Rattle.visits.specs.declared.node.Turn.TheVariants.{At, End}
+use Rattle.visits.specs.declared.node.Place.{Place}
+use Rattle.visits.specs.DueNode.{Turn}
 use Rattle.search_turn.specs.Desk.{Desk}
 use Rattle.search_turn.specs.Path.{Rows}
 use Rattle.results.specs.Loans.{loan, needed}
@@ -50,7 +51,7 @@ pub record Suits (arities : List ℕ) (limits : Limits) (l : List ℕ) : Type 0 
 abbrev pub scratch_of : Limits → ℕ
 scratch_of limits = (limits.depth + 1) * stride limits.size
 
-pub record Running (arities : List ℕ) (limits : Limits) (l a : List ℕ) (level shown : ℕ) (r : Record) (to : Given) : Type 0 where
+pub record Running (arities : List ℕ) (limits : Limits) (l a : List ℕ) (level : ℕ) (shown : Option ℕ) (r : Record) (to : Given) : Type 0 where
   pub suits : Suits arities limits l
   -- the deepest open state, and the others
   pub top : Open
@@ -65,10 +66,10 @@ pub record Running (arities : List ℕ) (limits : Limits) (l a : List ℕ) (leve
   pub gives : to ≡ given r a (remains limits r (length a) (to_come limits.depth (top ∷ above)))
 
 -- after a turn: the search goes on, with less before it, or the run has ended
-pub data Turned (arities : List ℕ) (limits : Limits) (l a : List ℕ) (level : ℕ) (r : Record) (to : Given) : Turn → (shown : ℕ) → Type 0 where
-  goes : {deeper shown : ℕ} {more : Record} → Running arities limits l a deeper shown more to → deeper + (r.visited + r.visited) < level + (more.visited + more.visited)
-      → Turned arities limits l a level r to (At deeper more) shown
-  ends : {e : Ending} {shown : ℕ} → to ≡ record { ending = e; answers = a } → Turned arities limits l a level r to (End e) shown
+pub data Turned (arities : List ℕ) (limits : Limits) (l a : List ℕ) (level : ℕ) (r : Record) (to : Given) : Turn → (shown : Option ℕ) → Type 0 where
+  goes : {p : Place} {shown : Option ℕ} → Running arities limits l a p.level shown p.counts to → p.level + (r.visited + r.visited) < level + (p.counts.visited + p.counts.visited)
+      → Turned arities limits l a level r to (Continue p) shown
+  ends : {e : Ending} {shown : Option ℕ} → to ≡ record { ending = e; answers = a } → Turned arities limits l a level r to (Break e) shown
 
 -- the run has ended so
 pub record Ends (to : Given) (e : Ending) (a : List ℕ) : Type 0 where

@@ -1,26 +1,27 @@
 // One turn of the search: the next child of the deepest row is looked for, and opened. A split that was opened stands open in scratch until another one is, and
 // its next child only advances the picks.
-ghost use Rattle.std.specs.Prelude.{◌≡◌, cond, ◌+◌};
+ghost use Rattle.std.specs.Prelude.{◌≡◌, cond};
 ghost use Rattle.search_turn.specs.Running.{Given, Running, Turned};
 
 use children::look;
 use counters::with_nodes;
 use only_child::next::Next;
-use results::ran::Record;
+use results::ran::{Ending, Record};
 use room::layout::HEADER;
 use search::limits::Limits;
-use visits::node::{Turn, back, due, meet, most_passed};
+use std::ops::ControlFlow;
+use visits::node::{Place, back, due, meet, most_passed};
 use visits::number::number_in;
 
-// A turn that was taken, and which split stands open in scratch after it: 0 where none does, else one more than the level of its row.
+// A turn that was taken, and the level of the row whose split stands open in scratch after it, if one does.
 #[derive(Clone, Copy)]
 pub struct Taken {
-    pub turn: Turn,
-    pub shown: usize,
+    pub turn: ControlFlow<Ending, Place>,
+    pub shown: Option<usize>,
 }
 
 // Which split stands open after a look: the one here where the row's was opened, else the one that stood open before.
-fn shown_then(opens: bool, here: usize, shown: usize) -> usize
+fn shown_then(opens: bool, here: Option<usize>, shown: Option<usize>) -> Option<usize>
     ensures { result ≡ cond opens here shown }
 {
     if opens {
@@ -37,7 +38,7 @@ pub fn take_turn(
     room: &mut [u16],
     level: usize,
     counts: Record,
-    shown: usize,
+    shown: Option<usize>,
 ) -> Taken
     requires { (to : Given) × Running arities.now limits room.old answers.old level shown counts to }
     ensures { (to : Given) → Running arities.now limits room.old answers.old level shown counts to → Turned arities.now limits room.new answers.new level counts to result.turn result.shown }
@@ -51,14 +52,13 @@ pub fn take_turn(
     let number = number_in(&room[low..high]);
     let most = most_passed(limits, level, counts);
     let looked = look(arities, room, at, level, number, size, scratch, most, shown);
-    let next = looked.next;
-    match next {
+    match looked.next {
         Next::Spent(k) => Taken {
             turn: back(level, with_nodes(counts, k as u64)),
-            shown: shown_then(looked.opens, 0, shown),
+            shown: shown_then(looked.opens, None, shown),
         },
         Next::Due(k) => Taken {
-            turn: Turn::End(due(limits, with_nodes(counts, k as u64))),
+            turn: ControlFlow::Break(due(limits, with_nodes(counts, k as u64))),
             shown,
         },
         Next::Node(k, node) => Taken {
@@ -71,7 +71,7 @@ pub fn take_turn(
                 number + k,
                 node,
             ),
-            shown: shown_then(looked.opens, level + 1, shown),
+            shown: shown_then(looked.opens, Some(level), shown),
         },
     }
 }

@@ -5,6 +5,7 @@ use mathlib.Core.List.{List}
 use native.Mathlib.Omega.{arith}
 use native.Mathlib.Nat.{mul-le-mul}
 use lib.ListN.{length, take, drop}
+use Rattle.std.proofs.Common.{Option, Some, None, Continue, Break}
 use Rattle.room.specs.Room.{seg, put}
 use Rattle.room.specs.Layout.{HEADER, stride}
 use Rattle.search.specs.declared.ends.End.TheVariants.{Space}
@@ -12,14 +13,10 @@ use Rattle.search.specs.declared.limits.Limits.{Limits}
 use Rattle.search.specs.RunLimits.{most_depth, most_size}
 use Rattle.rows.specs.declared.parts.Reached.TheVariants.{Live}
 use Rattle.results.specs.declared.ran.Record.{Record}
-use Rattle.answer_record.specs.declared.Noted.{Noted}
-use Rattle.answer_record.specs.declared.Noted.TheVariants.{Held, Space as NoSpace}
 use Rattle.counters.specs.Counted.{counted}
 use Rattle.answer_record.specs.Noting.{answer_in, note_by, held_by, Notable}
-use Rattle.visits.specs.declared.node.Turn.{Turn}
-use Rattle.visits.specs.declared.node.Turn.TheVariants.{At, End}
 use Rattle.visits.specs.ChildNumber.{number_words, part-after}
-use Rattle.visits.specs.DueNode.{OpenParts, child_place, child_row, noted_turn, node_turn, node_room, node_answers}
+use Rattle.visits.specs.DueNode.{Turn, OpenParts, child_place, child_row, noted_turn, node_turn, node_room, node_answers}
 
 pub place_small : {level size : ℕ} → level ≤ most_depth → size ≤ most_size → level * stride size ≤ 8396800
 place_small {level} {size} h k = mul-le-mul {n₁ = level} {m₁ = size + HEADER} {n₂ = 1024} {m₂ = 8200} h (omega arith)
@@ -38,7 +35,7 @@ module _ {limits : Limits} {level : ℕ} {l a : List ℕ} {r : Record} {number :
   pub note_asks : Notable part a more
   note_asks = rw (row_now, m) P.notable
 
-  module _ (after : next ≡ number + 1) {n : Noted} {last : List ℕ} (told : (n ≡ note_by (answer_in part) (length a) more) × (last ≡ held_by (answer_in part) a more)) where
+  module _ (after : next ≡ number + 1) {n : Option Record} {last : List ℕ} (told : (n ≡ note_by (answer_in part) (length a) more) × (last ≡ held_by (answer_in part) a more)) where
     abbrev Opened : Turn → Type 0
     Opened t = (t ≡ node_turn limits level l (length a) r Live) × ((room ≡ node_room limits level l number Live) × (last ≡ node_answers limits level l a r Live))
 
@@ -49,10 +46,10 @@ module _ {limits : Limits} {level : ℕ} {l a : List ℕ} {r : Record} {number :
     unfolding node_room
     room_as = e ∙ ap (λ (k : ℕ). put l (level * stride limits.size + 5) (number_words k)) after
 
-    pub opened_held : {noted : Record} → n ≡ Held noted → Opened (At (level + 1) noted)
+    pub opened_held : {noted : Record} → n ≡ Some noted → Opened (Continue (record { level = level + 1; counts = noted }))
     unfolding node_turn node_answers noted_turn
     opened_held {noted} h = (rw (sym noted_as ∙ h), (room_as, told.1 ∙ rw (row_now, m)))
 
-    pub opened_space : n ≡ NoSpace → Opened (End (record { end = Space; counts = more }))
+    pub opened_space : n ≡ None → Opened (Break (record { end = Space; counts = more }))
     unfolding node_turn node_answers noted_turn
     opened_space h = (rw (sym noted_as ∙ h, m), (room_as, told.1 ∙ rw (row_now, m)))

@@ -4,19 +4,20 @@ ghost use Rattle.rows.specs.declared.parts.Reached.TheVariants as kinds;
 ghost use Rattle.visits.specs.DueNode.{OpenParts, most_of, back_to, due_ending, node_turn, node_room, node_answers};
 
 use crate::number::set_number;
-use answer_record::{Noted, note};
+use answer_record::note;
 use counters::with_nodes;
 use results::ran::{Ending, Record};
 use room::layout::HEADER;
 use rows::parts::Reached;
 use search::ends::End;
 use search::limits::Limits;
+use std::ops::ControlFlow;
 
+// Where the search goes on: from the row of this level, with so much counted.
 #[derive(Clone, Copy)]
-pub enum Turn {
-    // the search goes on from the row of this level
-    At(usize, Record),
-    End(Ending),
+pub struct Place {
+    pub level: usize,
+    pub counts: Record,
 }
 
 // How many dead ends may be passed: none below the lent depth, and no more than there are steps left.
@@ -31,16 +32,19 @@ pub fn most_passed(limits: Limits, level: usize, counts: Record) -> usize
 }
 
 // No child is left: the row above goes on, or the run is done.
-pub fn back(level: usize, counts: Record) -> Turn
+pub fn back(level: usize, counts: Record) -> ControlFlow<Ending, Place>
     ensures { result ≡ back_to level counts }
 {
     if level == 0 {
-        return Turn::End(Ending {
+        return ControlFlow::Break(Ending {
             end: End::Done,
             counts,
         });
     }
-    Turn::At(level - 1, counts)
+    ControlFlow::Continue(Place {
+        level: level - 1,
+        counts,
+    })
 }
 
 // A child is due that may not be opened.
@@ -67,7 +71,7 @@ fn enter(
     level: usize,
     counts: Record,
     number: usize,
-) -> Turn
+) -> ControlFlow<Ending, Place>
     requires { OpenParts limits level room.old answers.old counts number }
     ensures value { result ≡ node_turn limits level room.old (length answers.old) counts kinds.Live }
     ensures room_after { room.new ≡ node_room limits level room.old number kinds.Live }
@@ -80,8 +84,11 @@ fn enter(
     let end = child + stride;
     let more = with_nodes(counts, 1);
     match note(&room[child..end], answers, more) {
-        Noted::Held(noted) => Turn::At(level + 1, noted),
-        Noted::Space => Turn::End(Ending {
+        Some(counts) => ControlFlow::Continue(Place {
+            level: level + 1,
+            counts,
+        }),
+        None => ControlFlow::Break(Ending {
             end: End::Space,
             counts: more,
         }),
@@ -97,7 +104,7 @@ pub fn meet(
     counts: Record,
     number: usize,
     node: Reached,
-) -> Turn
+) -> ControlFlow<Ending, Place>
     requires { node ≡ kinds.Live → OpenParts limits level room.old answers.old counts number }
     ensures value { result ≡ node_turn limits level room.old (length answers.old) counts node }
     ensures room_after { room.new ≡ node_room limits level room.old number node }
@@ -105,11 +112,11 @@ pub fn meet(
 {
     match node {
         Reached::Live => enter(limits, answers, room, level, counts, number),
-        Reached::Names => Turn::End(Ending {
+        Reached::Names => ControlFlow::Break(Ending {
             end: End::Names,
             counts,
         }),
-        Reached::Large => Turn::End(Ending {
+        Reached::Large => ControlFlow::Break(Ending {
             end: End::Size,
             counts,
         }),

@@ -18,11 +18,11 @@ note-requires c = root_notable c.requires.1 refl
 
 pub search_on-requires : goal.search_on-requires
 search_on-requires c =
-    (c.requires.0, root-held c.requires.1 refl (c.note.ensures.value, c.note.ensures.answers_after) c.in-Held.is)
+    (c.requires.0, root-held c.requires.1 refl (c.note.ensures.value, c.note.ensures.answers_after) c.in-Some.is)
 
-pub returns-in-Held : goal.returns-in-Held
-returns-in-Held c =
-    λ to S. c.search_on.ensures to (root-held S refl (c.note.ensures.value, c.note.ensures.answers_after) c.in-Held.is)
+pub returns-in-Some : goal.returns-in-Some
+returns-in-Some c =
+    λ to S. c.search_on.ensures to (root-held S refl (c.note.ensures.value, c.note.ensures.answers_after) c.in-Some.is)
 
-pub returns-in-Space : goal.returns-in-Space
-returns-in-Space c = λ to S. root_space S refl (c.note.ensures.value, c.note.ensures.answers_after) c.in-Space.is
+pub returns-in-None : goal.returns-in-None
+returns-in-None c = λ to S. root_space S refl (c.note.ensures.value, c.note.ensures.answers_after) c.in-None.is

@@ -1,4 +1,4 @@
-use mathlib.Core.Path.{refl, ◌∙◌}
+use mathlib.Core.Path.{refl}
 use Rattle.search_loop.proofs.Looping.{less, again, ends_so}
 use Rattle.search_loop.proofs.search_on.Goals as goal
 
@@ -12,20 +12,14 @@ pub loop-next-smaller : goal.loop-next-smaller
 loop-next-smaller c =
     let invariant = c.loop-next.invariant in
     let take_turn_told = c.take_turn-taken.ensures in
-    less invariant take_turn_told c.in-At.is
+    less invariant take_turn_told c.in-Continue.is
 
 pub loop-next-preserved : goal.loop-next-preserved
 loop-next-preserved c =
-    again c.loop-next.invariant c.take_turn-taken.ensures c.room-1.given c.answers-1.given c.in-At.is
+    again c.loop-next.invariant c.take_turn-taken.ensures c.room-1.given c.answers-1.given c.in-Continue.is
 
-pub shape_of-answers-in-End : goal.shape_of-answers-in-End
-shape_of-answers-in-End c = c.answers-1.given ∙ c.loop-next.invariant.answers_long
-
-pub shape_of-room-in-End : goal.shape_of-room-in-End
-shape_of-room-in-End c = c.room-1.given ∙ c.loop-next.invariant.room_long
-
-pub returns-in-End : goal.returns-in-End
-returns-in-End c =
+pub returns-in-Break : goal.returns-in-Break
+returns-in-Break c =
     let invariant = c.loop-next.invariant in
     let take_turn_told = c.take_turn-taken.ensures in
-    ends_so invariant take_turn_told c.in-End.is
+    ends_so invariant take_turn_told c.in-Break.is

@@ -4,7 +4,7 @@ use Rattle.search_loop.proofs.Looping.{Looping, before}
 use Rattle.search_loop.proofs.search_on.Given as goal
 
 abbrev pub invariant-loop-next : goal.invariant-loop-next
-invariant-loop-next l = Looping l.arities l.limits l.initial.room l.initial.answers l.initial.counts l.room l.answers l.level l.shown l.counts
+invariant-loop-next l = Looping l.arities l.limits l.initial.room l.initial.answers l.initial.place.counts l.room l.answers l.place.level l.shown l.place.counts
 
 abbrev pub decreases-loop-next : goal.decreases-loop-next
-decreases-loop-next l = before l.limits l.level l.counts
+decreases-loop-next l = before l.limits l.place.level l.place.counts

@@ -1,5 +1,5 @@
 -- `pick_loop::pass::pick_after`: the laws of `PassedDead`. What was passed before the loop stays passed in it.
-use Prim.Native.Nat.{ℕ, ◌-◌}
+use Prim.Native.Nat.{ℕ}
 use mathlib.Core.List.{List}
 use Rattle.choices.specs.OpenParent.{Parent}
 use Rattle.pick_loop.proofs.PassedDead.{Passed}
@@ -7,7 +7,4 @@ use Rattle.pick_loop.proofs.pass.pick_after.Given as goal
 
 abbrev pub invariant-loop-k : goal.invariant-loop-k
 invariant-loop-k v =
-    (l : List ℕ) (p : Parent) → Passed v.arities l v.at v.rest v.sides v.tails v.first v.second v.size v.next v.scratch v.most p v.initial.room v.initial.k → Passed v.arities l v.at v.rest v.sides v.tails v.first v.second v.size v.next v.scratch v.most p v.room v.k
-
-abbrev pub decreases-loop-k : goal.decreases-loop-k
-decreases-loop-k l = l.most - l.k
+    (l : List ℕ) (p : Parent) → Passed v.arities l v.at v.rest v.sides v.tails v.first v.second v.size v.next v.scratch v.most p v.initial.room 1 → Passed v.arities l v.at v.rest v.sides v.tails v.first v.second v.size v.next v.scratch v.most p v.room v.k

@@ -69,11 +69,6 @@ meet-requires c =
     hears_parts R (number-here R c.number_in-number.ensures) c.most_passed-most.ensures (c.look-looked.ensures.looks, c.look-looked.ensures.opens_value) c.in-Node.is
     c.with_nodes-in-Node.ensures
 
-pub overflow_add-level : goal.overflow_add-level
-overflow_add-level c =
-    let R = c.requires.1 in
-    omega (arith, R.deep, R.suits.depth)
-
 pub returns-in-Spent : goal.returns-in-Spent
 returns-in-Spent c =
     λ to R.

@@ -31,13 +31,13 @@ note-requires c =
     let set_number_told = c.set_number.ensures in
     note_asks c.requires _ set_number_told c.with_nodes-more.ensures
 
-pub returns-in-Held : goal.returns-in-Held
-returns-in-Held c =
+pub returns-in-Some : goal.returns-in-Some
+returns-in-Some c =
     let both = opened_held c.requires _ c.set_number.ensures c.with_nodes-more.ensures refl (c.note.ensures.value, c.note.ensures.answers_after)
-    c.in-Held.is in
+    c.in-Some.is in
     record { value = both.0; room_after = both.1.0; answers_after = both.1.1 }
 
-pub returns-in-Space : goal.returns-in-Space
-returns-in-Space c =
-    let both = opened_space c.requires _ c.set_number.ensures c.with_nodes-more.ensures refl (c.note.ensures.value, c.note.ensures.answers_after) c.in-Space.is in
+pub returns-in-None : goal.returns-in-None
+returns-in-None c =
+    let both = opened_space c.requires _ c.set_number.ensures c.with_nodes-more.ensures refl (c.note.ensures.value, c.note.ensures.answers_after) c.in-None.is in
     record { value = both.0; room_after = both.1.0; answers_after = both.1.1 }
