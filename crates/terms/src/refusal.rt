@@ -43,6 +43,7 @@ pub enum Checked {
 }
 
 // The table's number.
+// Kept: docs/PROMISES.md names this function, and a `From<Cause>` beside it would be its twin.
 pub fn number_of(cause: Cause) -> u32
     ensures { result ≡ number cause }
 {
