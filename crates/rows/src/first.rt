@@ -47,17 +47,15 @@ pub fn subject_of(words: &[u16], at: usize, right: usize, end: usize) -> Subject
 {
     let l = word_at(words, 0);
     if is_unknown(l) {
-        Subject {
-            x: l,
-            by: at + right,
-            m: end - right,
-        }
-    } else {
-        Subject {
-            x: word_at(words, right),
-            by: at,
-            m: right,
-        }
+        let by = at + right;
+        let m = end - right;
+        return Subject { x: l, by, m };
+    }
+    let x = word_at(words, right);
+    Subject {
+        x,
+        by: at,
+        m: right,
     }
 }
 
