@@ -34,6 +34,7 @@ pub fn copy_before(room: &mut [u16], from: usize, n: usize, x: u16, to: usize) -
     ensures room_after { room.new ≡ put room.old to (before x (seg room.old from n)) }
 {
     let mut run = 0;
+    // Kept: a `for` over blocks would have to count the words copied all the same, since the next loop goes on from there.
     while BLOCK <= n - run {
         if !copy_eight(room, from + run, x, to + run) {
             break;

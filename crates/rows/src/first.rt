@@ -40,17 +40,15 @@ pub fn subject_of(words: &[u16], at: usize, right: usize, end: usize) -> Replace
 {
     let l = word_at(words, 0);
     if is_unknown(l) {
-        Replacement {
-            x: l,
-            by: at + right,
-            m: end - right,
-        }
-    } else {
-        Replacement {
-            x: word_at(words, right),
-            by: at,
-            m: right,
-        }
+        let by = at + right;
+        let m = end - right;
+        return Replacement { x: l, by, m };
+    }
+    let x = word_at(words, right);
+    Replacement {
+        x,
+        by: at,
+        m: right,
     }
 }
 

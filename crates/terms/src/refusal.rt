@@ -36,6 +36,7 @@ pub struct Refusal {
 }
 
 // The table's number.
+// Kept: docs/PROMISES.md names this function, and a `From<Cause>` beside it would be its twin.
 pub fn number_of(cause: Cause) -> u32
     ensures { result ≡ number cause }
 {
