@@ -27,6 +27,8 @@ pub enum Answer<'a> {
     Short,
 }
 
+// Kept: a page and a place go side by side here, as `put_byte`, `put_bytes` and `put_number` of crate `word_writer` take them, whose clauses `Wrote` name both.
+
 // A number and a separator.
 fn put_part(page: &mut [u8], at: usize, number: u64, separator: u8) -> usize {
     let next = put_number(page, at, number);
