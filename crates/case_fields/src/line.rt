@@ -1,6 +1,6 @@
 // Where the fields of a line lie: TABs stand between them.
-ghost use Rattle.std.specs.Prelude.{◌≡◌, ◌≤◌, length, take, drop};
-ghost use Rattle.case_fields.specs.Line.{count, field_of, first_of};
+ghost use Rattle.std.specs.Prelude.{◌≡◌, MatchOption, [], take};
+ghost use Rattle.case_fields.specs.Line.{count, field_of};
 
 use crate::scan::find;
 
@@ -10,62 +10,27 @@ pub const TAB: u8 = 9;
 pub fn tabs(line: &[u8]) -> usize
     ensures { result ≡ count 9 line.now }
 {
-    let mut n = 0;
-    let mut i = 0;
-    while i < line.len() {
-        if line[i] == TAB {
-            n += 1;
-            i += 1;
-        } else {
-            i += 1;
-        }
-    }
-    n
+    line.iter().filter(|byte| **byte == TAB).count()
 }
 
-// Where field n begins, counted from 0; the length where there is none.
-fn start(line: &[u8], n: usize) -> usize
-    ensures within { result ≤ length line.now }
-    ensures exact { first_of (drop result line.now) ≡ field_of n line.now }
+// Field n, counted from 0, if the line has so many.
+pub fn field(line: &[u8], n: usize) -> Option<&[u8]>
+    ensures { MatchOption result (field_of n line.now ≡ []) (λ part. part.now ≡ field_of n line.now) }
 {
-    let mut from = 0;
-    let mut due = n;
-    while 0 < due {
-        let end = from + find(&line[from..], TAB);
-        if end == line.len() {
-            return end;
-        }
-        from = end + 1;
-        due -= 1;
+    let mut rest = line;
+    for _ in 0..n {
+        let end = find(rest, TAB)?;
+        rest = &rest[end + 1..];
     }
-    from
+    match find(rest, TAB) {
+        Some(end) => Some(&rest[..end]),
+        None => Some(rest),
+    }
 }
 
-// Field n, counted from 0; nothing where there is none.
-pub fn field(line: &[u8], n: usize) -> &[u8]
-    ensures { result.now ≡ field_of n line.now }
+// The first n items, or all where there are fewer.
+pub fn first<T>(items: &[T], n: usize) -> &[T]
+    ensures { result.now ≡ take n items.now }
 {
-    let from = start(line, n);
-    let end = from + find(&line[from..], TAB);
-    &line[from..end]
-}
-
-// The first n bytes, or all where there are fewer.
-pub fn first_bytes(bytes: &[u8], n: usize) -> &[u8]
-    ensures { result.now ≡ take n bytes.now }
-{
-    if n <= bytes.len() {
-        return &bytes[..n];
-    }
-    bytes
-}
-
-// The first n words, or all where there are fewer.
-pub fn first_words(words: &[u16], n: usize) -> &[u16]
-    ensures { result.now ≡ take n words.now }
-{
-    if n <= words.len() {
-        return &words[..n];
-    }
-    words
+    items.get(..n).unwrap_or(items)
 }

@@ -2,54 +2,26 @@
 ghost use Rattle.std.specs.Prelude.{◌≡◌};
 ghost use Rattle.case_fields.specs.DecimalField.{more, number_of};
 
-#[derive(Clone, Copy)]
-pub enum Number {
-    Value(u64),
-    Malformed,
-}
-
-fn wide(byte: u8) -> u64
-    ensures { result ≡ byte }
-{
-    byte as u64
-}
-
-// A number with one digit more.
-fn add_digit(value: u64, byte: u8) -> Number
+// A number with one digit more, if the byte is a digit and the number has no more than 64 bits.
+fn add_digit(value: u64, byte: u8) -> Option<u64>
     ensures { result ≡ more value byte }
 {
-    if byte < 48 {
-        return Number::Malformed;
+    if !byte.is_ascii_digit() {
+        return None;
     }
-    if 57 < byte {
-        return Number::Malformed;
-    }
-    let digit = wide(byte - 48);
-    if (18446744073709551615 - digit) / 10 < value {
-        return Number::Malformed;
-    }
-    Number::Value(value * 10 + digit)
+    value.checked_mul(10)?.checked_add(u64::from(byte - b'0'))
 }
 
 // A field that is one number: digits and nothing else, of which there is one at least.
-pub fn read_number(field: &[u8]) -> Number
+pub fn read_number(field: &[u8]) -> Option<u64>
     ensures { result ≡ number_of field.now }
 {
-    if field.len() == 0 {
-        return Number::Malformed;
+    if field.is_empty() {
+        return None;
     }
-    let mut value: u64 = 0;
-    let mut i = 0;
-    while i < field.len() {
-        match add_digit(value, field[i]) {
-            Number::Value(longer) => {
-                value = longer;
-                i += 1;
-            }
-            Number::Malformed => {
-                return Number::Malformed;
-            }
-        }
+    let mut value = 0;
+    for byte in field {
+        value = add_digit(value, *byte)?;
     }
-    Number::Value(value)
+    Some(value)
 }

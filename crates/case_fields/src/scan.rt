@@ -1,18 +1,11 @@
 // Where a byte stands.
-ghost use Rattle.std.specs.Prelude.{◌≡◌, ◌≤◌, length};
+ghost use Rattle.std.specs.Prelude.{◌≡◌, ◌<◌, length, unwrap_or, IfSome};
 ghost use Rattle.case_fields.specs.Line.{index_of};
 
-// The first place of a byte; the length where it does not occur.
-pub fn find(bytes: &[u8], byte: u8) -> usize
-    ensures value { result ≡ index_of byte bytes.now }
-    ensures within { result ≤ length bytes.now }
+// The first place of a byte, if it occurs.
+pub fn find(bytes: &[u8], byte: u8) -> Option<usize>
+    ensures value { unwrap_or result (length bytes.now) ≡ index_of byte bytes.now }
+    ensures within { IfSome result (λ k. k < length bytes.now) }
 {
-    let mut at = 0;
-    while at < bytes.len() {
-        if bytes[at] == byte {
-            return at;
-        }
-        at += 1;
-    }
-    at
+    bytes.iter().position(|x| *x == byte)
 }

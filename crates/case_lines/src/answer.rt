@@ -1,32 +1,33 @@
 // What an entry answered, and the line of its result.
+use crate::case::Question;
 use case_fields::hex::put_hex;
-use case_fields::line::{field, first_bytes, first_words};
-use case_fields::list::{put_arities, put_words};
+use case_fields::list::put_list;
 use word_writer::put::{put_byte, put_bytes, put_number};
 
 #[derive(Clone, Copy)]
-pub enum Answer {
-    // a question that was read: its unknowns, functors, equations and words
-    Question(usize, usize, usize, usize),
-    // a text of so many bytes that was written
-    Written(usize),
-    Equal,
-    Differ,
-    Yes,
-    No,
-    // a run: its end, nodes visited, answers listed and words used
-    Ended(u32, u64, u64, usize),
-    // the cause and the place
-    Refused(u32, usize),
+pub enum Answer<'a> {
+    // a question that was read
+    Question(Question<'a>),
+    // a text that was written
+    Text(&'a [u8]),
+    Equal(bool),
+    Solves(bool),
+    // a run: its end, nodes visited, answers listed and their words
+    Ended {
+        end: u32,
+        visited: u64,
+        answers: u64,
+        words: &'a [u16],
+    },
+    Refused {
+        number: u32,
+        place: usize,
+    },
     // a run for which the driver has too little to lend
     Short,
-    // there is no such case
-    None,
 }
 
-fn wide(number: u32) -> u64 {
-    number as u64
-}
+// Kept: a page and a place go side by side here, as `put_byte`, `put_bytes` and `put_number` of crate `word_writer` take them, whose clauses `Wrote` name both.
 
 // A number and a separator.
 fn put_part(page: &mut [u8], at: usize, number: u64, separator: u8) -> usize {
@@ -37,24 +38,18 @@ fn put_part(page: &mut [u8], at: usize, number: u64, separator: u8) -> usize {
 // refused N P
 fn put_refusal(page: &mut [u8], number: u32, place: usize) -> usize {
     let next = put_bytes(page, 0, b"refused ");
-    let after = put_part(page, next, wide(number), b' ');
+    let after = put_part(page, next, u64::from(number), b' ');
     put_number(page, after, place as u64)
 }
 
 // ok U|A|E|W
-fn put_question(
-    page: &mut [u8],
-    unknowns: usize,
-    arities: &[u8],
-    equations: usize,
-    words: &[u16],
-) -> usize {
+fn put_question(page: &mut [u8], question: Question) -> usize {
     let first = put_bytes(page, 0, b"ok ");
-    let second = put_part(page, first, unknowns as u64, b'|');
-    let third = put_arities(page, second, arities);
+    let second = put_part(page, first, question.unknowns as u64, b'|');
+    let third = put_list(page, second, question.arities);
     let fourth = put_byte(page, third, b'|');
-    let fifth = put_part(page, fourth, equations as u64, b'|');
-    put_words(page, fifth, words)
+    let fifth = put_part(page, fourth, question.equations as u64, b'|');
+    put_list(page, fifth, question.words)
 }
 
 // ok HEX
@@ -65,48 +60,31 @@ fn put_text(page: &mut [u8], text: &[u8]) -> usize {
 
 // END VISITED ANSWERS W, where W is - if no word was used
 fn put_ending(page: &mut [u8], end: u32, visited: u64, answers: u64, words: &[u16]) -> usize {
-    let first = put_part(page, 0, wide(end), b' ');
+    let first = put_part(page, 0, u64::from(end), b' ');
     let second = put_part(page, first, visited, b' ');
     let third = put_part(page, second, answers, b' ');
-    if words.len() == 0 {
+    if words.is_empty() {
         return put_byte(page, third, b'-');
     }
-    put_words(page, third, words)
+    put_list(page, third, words)
 }
 
-// Where the answer's word stands among those of `put_word`.
-fn word_of(answer: Answer) -> usize {
+// The result is written at the start of the page, and its length comes back.
+pub fn put_answer(page: &mut [u8], answer: Answer) -> usize {
     match answer {
-        Answer::Equal => 0,
-        Answer::Differ => 1,
-        Answer::Yes => 2,
-        Answer::No => 3,
-        Answer::Short => 4,
-        _ => 5,
-    }
-}
-
-fn put_word(page: &mut [u8], word: usize) -> usize {
-    let words = b"equal\tdiffer\tyes\tno\tmore room is needed than there is";
-    put_bytes(page, 0, field(words, word))
-}
-
-// The result is written at the start of the page, and its length comes back: 0 where there is no such case. What the answer counts stands at the start of the
-// bytes and the words.
-pub fn put_answer(page: &mut [u8], answer: Answer, bytes: &[u8], words: &[u16]) -> usize {
-    match answer {
-        Answer::Question(unknowns, functors, equations, count) => put_question(
-            page,
-            unknowns,
-            first_bytes(bytes, functors),
-            equations,
-            first_words(words, count),
-        ),
-        Answer::Written(length) => put_text(page, first_bytes(bytes, length)),
-        Answer::Ended(end, visited, count, used) => {
-            put_ending(page, end, visited, count, first_words(words, used))
-        }
-        Answer::Refused(number, place) => put_refusal(page, number, place),
-        _ => put_word(page, word_of(answer)),
+        Answer::Question(question) => put_question(page, question),
+        Answer::Text(text) => put_text(page, text),
+        Answer::Equal(true) => put_bytes(page, 0, b"equal"),
+        Answer::Equal(false) => put_bytes(page, 0, b"differ"),
+        Answer::Solves(true) => put_bytes(page, 0, b"yes"),
+        Answer::Solves(false) => put_bytes(page, 0, b"no"),
+        Answer::Ended {
+            end,
+            visited,
+            answers,
+            words,
+        } => put_ending(page, end, visited, answers, words),
+        Answer::Refused { number, place } => put_refusal(page, number, place),
+        Answer::Short => put_bytes(page, 0, b"more room is needed than there is"),
     }
 }

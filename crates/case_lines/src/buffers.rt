@@ -1,16 +1,33 @@
 // What a driver holds, on a stack of 8 MiB: there is no heap.
 
 // The longest line of cases, with its LF.
-pub type Input = [u8; 131073];
+pub const INPUT: usize = 131073;
 
 // The most numbers in a list; a line with more is no case.
-pub type Words = [u16; 12288];
+pub const ITEMS: usize = 12288;
 
 // A word gives 12 bytes of text at most, as `unknown=511` and LF, so that this holds the text of every list.
-pub type Bytes = [u8; 147456];
+pub const BYTES: usize = 147456;
 
 // `ok ` and such a text in hex.
-pub type Page = [u8; 294928];
+pub const PAGE: usize = 294928;
 
 // What runs work in.
-pub type Room = [u16; 3000000];
+pub const ROOM: usize = 3000000;
+
+// The lists of a case. A text is at most half as long as its line.
+#[derive(Drop)]
+pub struct Lists {
+    pub text: [u8; 65536],
+    pub arities: [u8; ITEMS],
+    pub words: [u16; ITEMS],
+    pub row: [u16; ITEMS],
+}
+
+// What an entry lays down, and what a run works in.
+#[derive(Drop)]
+pub struct Laid {
+    pub bytes: [u8; BYTES],
+    pub words: [u16; ITEMS],
+    pub room: [u16; ROOM],
+}

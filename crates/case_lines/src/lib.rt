@@ -3,9 +3,7 @@
 //
 //   buffers  what a driver holds
 //   input    the next line
-//   kind     the kinds of cases, and which fields each has
-//   numbers  the numbers of a line
-//   case     a line as a case: its kind, its numbers, its lists in the buffers
+//   case     the kinds of cases, and a line as a case, its lists in the buffers
 //   lending  how much of a buffer is lent
 //   answer   what an entry answered, and the result's line
 #![tactic(auto)]
@@ -14,6 +12,4 @@ pub mod answer;
 pub mod buffers;
 pub mod case;
 pub mod input;
-pub mod kind;
 pub mod lending;
-pub mod numbers;

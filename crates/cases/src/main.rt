@@ -16,68 +16,64 @@
 // Crate `case_lines` reads the lines and writes the results; `entry_cases` and `run_cases` have the kinds.
 #![tactic(auto)]
 
-use case_fields::line::{first_bytes, first_words};
+use case_fields::line::first;
 use case_lines::answer::{Answer, put_answer};
-use case_lines::buffers;
-use case_lines::buffers::{Bytes, Page, Room, Words};
-use case_lines::case::case_of;
-use case_lines::input::{NONE_YET, line_of, next_line};
-use case_lines::kind::Kind;
-use entry_cases::entry_answer;
-use run_cases::run_answer;
+use case_lines::buffers::{BYTES, ITEMS, Laid, Lists, PAGE, ROOM};
+use case_lines::case::{Case, case_of};
+use case_lines::input::Lines;
+use case_lines::lending::lent;
+use entry_cases::comparing::{equal_case, values_case};
+use entry_cases::reading::read_case;
+use entry_cases::writing::{writel_case, writeq_case};
+use run_cases::texts::run_case;
+use run_cases::words::runw_case;
 use std::io;
 use std::io::Write;
 use word_writer::put::put_byte;
 
 const LINE_FEED: u8 = 10;
 
-fn answer(
-    kind: Kind,
-    numbers: [u64; 10],
-    bytes: &[u8],
-    words: &[u16],
-    row: &[u16],
-    laid_bytes: &mut [u8],
-    laid_words: &mut [u16],
-    room: &mut [u16],
-) -> Answer {
-    match kind {
-        Kind::Run | Kind::Runw => run_answer(kind, numbers, bytes, words, laid_words, room),
-        _ => entry_answer(kind, numbers, bytes, words, row, laid_bytes, laid_words),
+fn answer<'a>(case: Case, laid: &'a mut Laid) -> Answer<'a> {
+    let Laid {
+        bytes: laid_bytes,
+        words: laid_words,
+        room,
+    } = laid;
+    match case {
+        Case::Read {
+            text,
+            arities,
+            words,
+        } => read_case(text, lent(laid_bytes, arities), lent(laid_words, words)),
+        Case::Writeq { question, space } => writeq_case(question, lent(laid_bytes, space)),
+        Case::Writel {
+            arities,
+            end,
+            visited,
+            answers,
+            words,
+            space,
+        } => {
+            let text = lent(laid_bytes, space);
+            writel_case(arities, end, visited, answers, words, text)
+        }
+        Case::Equal { arities, words } => equal_case(arities, words),
+        Case::Values { question, row } => values_case(question, row),
+        Case::Run { loan, text } => run_case(loan, text, laid_words, room),
+        Case::Runw { question, loan } => { runw_case(question, loan, laid_words, room) }
     }
 }
 
-// The length of a line's result on the page.
-fn take_line(
-    line: &[u8],
-    bytes: &mut [u8],
-    words: &mut [u16],
-    row: &mut [u16],
-    laid_bytes: &mut [u8],
-    laid_words: &mut [u16],
-    room: &mut [u16],
-    page: &mut [u8],
-) -> usize {
-    let case = case_of(line, bytes, words, row);
-    let kind = case.kind;
-    let numbers = case.numbers;
-    let told = answer(
-        kind,
-        numbers,
-        first_bytes(bytes, case.bytes),
-        first_words(words, case.words),
-        first_words(row, case.row),
-        laid_bytes,
-        laid_words,
-        room,
-    );
-    put_answer(page, told, laid_bytes, laid_words)
+// The length of a line's result on the page, if the line is a case.
+fn take_line(line: &[u8], lists: &mut Lists, laid: &mut Laid, page: &mut [u8]) -> Option<usize> {
+    let case = case_of(line, lists)?;
+    Some(put_answer(page, answer(case, laid)))
 }
 
 // Writes out the result that stands on a page.
-fn write_out(rt: &impl Print, page: &mut Page, length: usize) -> io::Result<()> {
+fn write_out(rt: &impl Print, page: &mut [u8], length: usize) -> io::Result<()> {
     let end = put_byte(page, length, LINE_FEED);
-    io::writer(rt).write_all(first_bytes(page, end))
+    io::writer(rt).write_all(first(page, end))
 }
 
 // A word on the line that is no case.
@@ -88,58 +84,35 @@ fn complain(rt: &impl Eprint, line: u64) -> io::Result<()> {
 // Line after line until the input ends. Nothing says that it does, so the lines are counted up to a number that no run reaches.
 fn take_lines(
     rt: &(impl Input + Print + Eprint),
-    input: &mut buffers::Input,
-    bytes: &mut Bytes,
-    words: &mut Words,
-    row: &mut Words,
-    laid_bytes: &mut Bytes,
-    laid_words: &mut Words,
-    room: &mut Room,
-    page: &mut Page,
+    lists: &mut Lists,
+    laid: &mut Laid,
+    page: &mut [u8],
 ) -> io::Result<()> {
-    let mut reader = rt.reader();
-    let mut line = NONE_YET;
+    let mut lines = Lines::new(rt.reader());
     for number in 1..u64::MAX {
-        line = next_line(&mut reader, input, line)?;
-        if line.ended {
+        let Some(line) = lines.next()? else {
             return Ok(());
-        }
-        let length = take_line(
-            line_of(input, line),
-            bytes,
-            words,
-            row,
-            laid_bytes,
-            laid_words,
-            room,
-            page,
-        );
-        if length == 0 {
+        };
+        let Some(length) = take_line(line, lists, laid, page) else {
             return complain(rt, number);
-        }
+        };
         write_out(rt, page, length)?;
     }
     Ok(())
 }
 
 fn main(rt: HostRuntime) -> io::Result<()> {
-    let mut input = [0u8; 131073];
-    let mut bytes = [0u8; 147456];
-    let mut words = [0u16; 12288];
-    let mut row = [0u16; 12288];
-    let mut laid_bytes = [0u8; 147456];
-    let mut laid_words = [0u16; 12288];
-    let mut room = [0u16; 3000000];
-    let mut page = [0u8; 294928];
-    take_lines(
-        &rt,
-        &mut input,
-        &mut bytes,
-        &mut words,
-        &mut row,
-        &mut laid_bytes,
-        &mut laid_words,
-        &mut room,
-        &mut page,
-    )
+    let mut lists = Lists {
+        text: [0; 65536],
+        arities: [0; ITEMS],
+        words: [0; ITEMS],
+        row: [0; ITEMS],
+    };
+    let mut laid = Laid {
+        bytes: [0; BYTES],
+        words: [0; ITEMS],
+        room: [0; ROOM],
+    };
+    let mut page = [0; PAGE];
+    take_lines(&rt, &mut lists, &mut laid, &mut page)
 }

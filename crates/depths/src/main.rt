@@ -23,19 +23,13 @@ const LINE_WORDS: usize = 8193;
 const BAR: u16 = 2124;
 
 fn word_of(letter: u8) -> u16 {
-    if letter == b'0' {
-        return EMPTY;
+    match letter {
+        b'0' => EMPTY,
+        b'1' => MEMBER,
+        b'x' => unknown_word(0),
+        b'y' => unknown_word(1),
+        _ => functor_word(usize::from(letter)),
     }
-    if letter == b'1' {
-        return MEMBER;
-    }
-    if letter == b'x' {
-        return unknown_word(0);
-    }
-    if letter == b'y' {
-        return unknown_word(1);
-    }
-    functor_word(letter as usize)
 }
 
 fn tell_refusal(rt: &impl Print, refusal: Refusal) -> io::Result<()> {
@@ -60,46 +54,26 @@ fn tell_solving(rt: &impl Print, arities: &[u8], words: &[u16], row: &[u16]) -> 
     }
 }
 
-// The place of the bar, or the length.
-fn bar(line: &[u16]) -> usize {
-    let mut i: usize = 0;
-    while i < line.len() {
-        if line[i] == BAR {
-            return i;
-        }
-        i += 1;
-    }
-    i
-}
-
 fn tell(rt: &impl Print, line: &[u16]) -> io::Result<()> {
     let mut arities = [0u8; FUNCTORS];
     arities[103] = 1;
     arities[112] = 2;
-    let k = bar(line);
-    if k < line.len() {
-        tell_solving(rt, &arities, &line[..k], &line[k + 1..])
-    } else {
-        tell_equal(rt, &arities, line)
+    match line.iter().position(|word| *word == BAR) {
+        Some(bar) => tell_solving(rt, &arities, &line[..bar], &line[bar + 1..]),
+        None => tell_equal(rt, &arities, line),
     }
 }
 
-// A line longer than a question, the bar and a row may be is cut.
+// A line longer than a question, the bar and a row may be is cut. What stands after the last LF is no line.
 fn tell_lines(rt: &impl Print, text: &[u8], row: &mut [u16]) -> io::Result<()> {
     let mut n: usize = 0;
-    let mut i: usize = 0;
-    while i < text.len() {
-        let letter = text[i];
-        if letter == LINE_END {
+    for letter in text {
+        if *letter == LINE_END {
             tell(rt, &row[..n])?;
             n = 0;
-            i += 1;
         } else if n < row.len() {
-            row[n] = word_of(letter);
+            row[n] = word_of(*letter);
             n += 1;
-            i += 1;
-        } else {
-            i += 1;
         }
     }
     Ok(())

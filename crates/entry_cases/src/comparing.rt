@@ -1,27 +1,28 @@
 // equal A W and values U A E W ROW.
 use crate::refused;
 use case_lines::answer::Answer;
+use case_lines::case::Question;
 use equality::{equal, solves};
 use results::compared::{Equality, Solving};
 
-pub fn equal_case(arities: &[u8], words: &[u16]) -> Answer {
+pub fn equal_case<'a>(arities: &[u8], words: &[u16]) -> Answer<'a> {
     match equal(arities, words) {
-        Equality::Equal => Answer::Equal,
-        Equality::Differ => Answer::Differ,
+        Equality::Equal => Answer::Equal(true),
+        Equality::Differ => Answer::Equal(false),
         Equality::Refused(refusal) => refused(refusal),
     }
 }
 
-pub fn values_case(numbers: [u64; 10], arities: &[u8], words: &[u16], row: &[u16]) -> Answer {
+pub fn values_case<'a>(question: Question, row: &[u16]) -> Answer<'a> {
     match solves(
-        numbers[1] as usize,
-        arities,
-        numbers[3] as usize,
-        words,
+        question.unknowns,
+        question.arities,
+        question.equations,
+        question.words,
         row,
     ) {
-        Solving::Yes => Answer::Yes,
-        Solving::No => Answer::No,
+        Solving::Yes => Answer::Solves(true),
+        Solving::No => Answer::Solves(false),
         Solving::Refused(refusal) => refused(refusal),
     }
 }

@@ -1,35 +1,39 @@
 // writeq U A E W CAP and writel A END VISITED COUNT W CAP. At most CAP bytes are lent.
 use crate::refused;
+use case_fields::line::first;
 use case_lines::answer::Answer;
-use case_lines::lending::lent_bytes;
+use case_lines::case::Question;
 use list_writer::list::write_answers;
 use results::written::Written;
 use writer::question::write_question;
 
-fn told(written: Written) -> Answer {
+// What was written to the start of the text.
+fn told(written: Written, text: &[u8]) -> Answer<'_> {
     match written {
-        Written::Length(length) => Answer::Written(length),
+        Written::Length(length) => Answer::Text(first(text, length)),
         Written::Refused(refusal) => refused(refusal),
     }
 }
 
-pub fn writeq_case(numbers: [u64; 10], arities: &[u8], words: &[u16], text: &mut [u8]) -> Answer {
-    told(write_question(
-        numbers[1] as usize,
-        arities,
-        numbers[3] as usize,
-        words,
-        lent_bytes(text, numbers[5]),
-    ))
+pub fn writeq_case<'a>(question: Question, text: &'a mut [u8]) -> Answer<'a> {
+    let written = write_question(
+        question.unknowns,
+        question.arities,
+        question.equations,
+        question.words,
+        text,
+    );
+    told(written, text)
 }
 
-pub fn writel_case(numbers: [u64; 10], arities: &[u8], words: &[u16], text: &mut [u8]) -> Answer {
-    told(write_answers(
-        arities,
-        numbers[2],
-        numbers[3],
-        numbers[4] as usize,
-        words,
-        lent_bytes(text, numbers[6]),
-    ))
+pub fn writel_case<'a>(
+    arities: &[u8],
+    end: u64,
+    visited: u64,
+    answers: usize,
+    words: &[u16],
+    text: &'a mut [u8],
+) -> Answer<'a> {
+    let written = write_answers(arities, end, visited, answers, words, text);
+    told(written, text)
 }

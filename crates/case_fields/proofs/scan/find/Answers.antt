@@ -1,32 +1,15 @@
-use Rattle.std.proofs.Common.{sym, arith, eqb, eq-eqb, ne_eqb, ℕ}
-use Rattle.std.proofs.lemmas.List.Sums.{position_or_len_is}
+use Rattle.std.proofs.Common.{rules, tests}
+use Rattle.std.proofs.lemmas.Iterator.{YieldsList-from_slice}
+use Rattle.std.proofs.lemmas.Iterator.Search.{position_from_yields_List}
+use Rattle.case_fields.proofs.FieldLaws.{found}
 use Rattle.case_fields.specs.Line.{index_of}
 use Rattle.case_fields.proofs.scan.find.Goals as goal
-
-pub returns-then-bytes-at-clause-value : goal.returns-then-bytes-at-clause-value
-unfolding index_of
-returns-then-bytes-at-clause-value c =
-    let l = c.loop-at in
-    sym
-    (position_or_len_is
-    (λ (x : ℕ). eqb x c.args.byte)
-    c.args.bytes.now
-    l.at
-    0
-    l.invariant.0
-    (λ k h. ne_eqb _ _ (l.invariant.1 k h))
-    (λ _. eq-eqb _ _ c.if-bytes-at.true))
 
 pub returns-clause-value : goal.returns-clause-value
 unfolding index_of
 returns-clause-value c =
-    let l = c.loop-at in
-    sym
-    (position_or_len_is
-    (λ (x : ℕ). eqb x c.args.byte)
+    found
+    c.args.byte
     c.args.bytes.now
-    l.at
-    0
-    l.invariant.0
-    (λ k h. ne_eqb _ _ (l.invariant.1 k h))
-    (λ h. absurd (omega (arith, h))))
+    _
+    (position_from_yields_List _ _ _ _ c.position.ensures.ran (YieldsList-from_slice c.args.bytes.now cc) (λ x b q k. search (rules, tests)))
