@@ -5,7 +5,6 @@
 
 use equality::{equal, solves};
 use full_reads::read_full;
-use results::compared::{Equality, Solving};
 use std::io;
 use terms::bounds::{EMPTY, FUNCTORS, MEMBER};
 use terms::kind::{functor_word, unknown_word};
@@ -40,17 +39,17 @@ fn tell_refusal(rt: &impl Print, refusal: Refusal) -> io::Result<()> {
 
 fn tell_equal(rt: &impl Print, arities: &[u8], row: &[u16]) -> io::Result<()> {
     match equal(arities, row) {
-        Equality::Equal => println!(rt; "equal"),
-        Equality::Differ => println!(rt; "differ"),
-        Equality::Refused(refusal) => tell_refusal(rt, refusal),
+        Ok(true) => println!(rt; "equal"),
+        Ok(false) => println!(rt; "differ"),
+        Err(refusal) => tell_refusal(rt, refusal),
     }
 }
 
 fn tell_solving(rt: &impl Print, arities: &[u8], words: &[u16], row: &[u16]) -> io::Result<()> {
     match solves(2, arities, 1, words, row) {
-        Solving::Yes => println!(rt; "yes"),
-        Solving::No => println!(rt; "no"),
-        Solving::Refused(refusal) => tell_refusal(rt, refusal),
+        Ok(true) => println!(rt; "yes"),
+        Ok(false) => println!(rt; "no"),
+        Err(refusal) => tell_refusal(rt, refusal),
     }
 }
 

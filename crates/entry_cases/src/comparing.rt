@@ -3,13 +3,11 @@ use crate::refused;
 use case_lines::answer::Answer;
 use case_lines::case::Question;
 use equality::{equal, solves};
-use results::compared::{Equality, Solving};
 
 pub fn equal_case<'a>(arities: &[u8], words: &[u16]) -> Answer<'a> {
     match equal(arities, words) {
-        Equality::Equal => Answer::Equal(true),
-        Equality::Differ => Answer::Equal(false),
-        Equality::Refused(refusal) => refused(refusal),
+        Ok(same) => Answer::Equal(same),
+        Err(refusal) => refused(refusal),
     }
 }
 
@@ -21,8 +19,7 @@ pub fn values_case<'a>(question: Question, row: &[u16]) -> Answer<'a> {
         question.words,
         row,
     ) {
-        Solving::Yes => Answer::Solves(true),
-        Solving::No => Answer::Solves(false),
-        Solving::Refused(refusal) => refused(refusal),
+        Ok(yes) => Answer::Solves(yes),
+        Err(refusal) => refused(refusal),
     }
 }

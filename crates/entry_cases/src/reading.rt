@@ -4,16 +4,15 @@ use case_fields::line::first;
 use case_lines::answer::Answer;
 use case_lines::case::Question;
 use reader::question::read_question;
-use results::read;
 
 pub fn read_case<'a>(text: &[u8], arities: &'a mut [u8], words: &'a mut [u16]) -> Answer<'a> {
     match read_question(text, arities, words) {
-        read::Question::Read(unknowns, functors, equations, used) => Answer::Question(Question {
-            unknowns,
-            arities: first(arities, functors),
-            equations,
-            words: first(words, used),
+        Ok(counts) => Answer::Question(Question {
+            unknowns: counts.unknowns,
+            arities: first(arities, counts.functors),
+            equations: counts.equations,
+            words: first(words, counts.words),
         }),
-        read::Question::Refused(refusal) => refused(refusal),
+        Err(refusal) => refused(refusal),
     }
 }

@@ -4,14 +4,14 @@ use case_fields::line::first;
 use case_lines::answer::Answer;
 use case_lines::case::Question;
 use list_writer::list::write_answers;
-use results::written::Written;
+use terms::refusal::Refusal;
 use writer::question::write_question;
 
 // What was written to the start of the text.
-fn told(written: Written, text: &[u8]) -> Answer<'_> {
+fn told(written: Result<usize, Refusal>, text: &[u8]) -> Answer<'_> {
     match written {
-        Written::Length(length) => Answer::Text(first(text, length)),
-        Written::Refused(refusal) => refused(refusal),
+        Ok(length) => Answer::Text(first(text, length)),
+        Err(refusal) => refused(refusal),
     }
 }
 

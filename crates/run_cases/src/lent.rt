@@ -3,7 +3,7 @@ use case_fields::line::first;
 use case_lines::answer::Answer;
 use case_lines::case::{Loan, Question};
 use case_lines::lending::lent;
-use results::ran::{Ending, Ran};
+use results::ran::Ending;
 use search::ends::{End, number_of_end};
 use solver::run;
 use terms::refusal::{Cause, Refusal, number_of};
@@ -47,8 +47,8 @@ pub fn run_lent(loan: Loan, question: Question, answers: &mut [u16], room: &mut 
         lent(answers, loan.space),
         lent(room, loan.room),
     ) {
-        Ran::Ended(ending) => ended(ending, fewer),
-        Ran::Refused(refusal) => refused(refusal, loan.room),
+        Ok(ending) => ended(ending, fewer),
+        Err(refusal) => refused(refusal, loan.room),
     }
 }
 

@@ -8,7 +8,6 @@ use case_lines::answer::Answer;
 use case_lines::case::{Loan, Question};
 use reader::question::read_question;
 use results::ran::Ending;
-use results::read;
 use search::ends::End;
 use terms::bounds::{FUNCTORS, SYMBOLS};
 use terms::refusal::{Cause, Refusal};
@@ -53,16 +52,16 @@ fn run_text(loan: Loan, text: &[u8], answers: &mut [u16], room: &mut [u16]) -> O
     let mut arities = [0u8; FUNCTORS];
     let mut words = [0u16; SYMBOLS];
     match read_question(text, &mut arities, &mut words) {
-        read::Question::Read(unknowns, functors, equations, used) => {
+        Ok(counts) => {
             let question = Question {
-                unknowns,
-                arities: first(&arities, functors),
-                equations,
-                words: first(&words, used),
+                unknowns: counts.unknowns,
+                arities: first(&arities, counts.functors),
+                equations: counts.equations,
+                words: first(&words, counts.words),
             };
             run_question(loan, question, answers, room)
         }
-        read::Question::Refused(refusal) => Outcome::Refused(refusal),
+        Err(refusal) => Outcome::Refused(refusal),
     }
 }
 
