@@ -1,5 +1,5 @@
 -- Numbers of a text: plain decimal, without a leading zero, of at most five digits.
-use Rattle.std.specs.Prelude.{ℕ, zero, suc, ◌+◌, ◌-◌, ◌*◌, ◌≤◌, ◌<◌, ◌≡◌, List, eqb, ltb, Result, Ok, Err}
+use Rattle.std.specs.Prelude.{ℕ, zero, suc, ◌+◌, ◌-◌, ◌*◌, ◌≤◌, ◌<◌, ◌≡◌, List, eqb, ltb, Option, Some, None, Result, Ok, Err}
 use Rattle.std.proofs.Common.{arith, ltb-false, lt-ltb, le-ltb}
 use Rattle.terms.specs.Lists.{cases}
 use Rattle.terms.specs.declared.refusal.Cause.TheVariants.{Number, Limit}
@@ -47,7 +47,11 @@ between low high s p =
     and_then (number s p)
     (λ q v. choose (ltb v low) (λ _. fault Limit p) (λ _. choose (ltb high v) (λ _. fault Limit p) (λ _. read q v)))
 
--- the same, of the code's answer
+-- the same, of the code's answers
+abbrev pub of_digit : Option ℕ → ℕ
+of_digit (Some d) = d
+of_digit None = 10
+
 abbrev pub of_numeral : Result Numeral Refusal → Reading ℕ
 of_numeral (Ok n) = read n.end n.value
 of_numeral (Err r) = refused r

@@ -26,6 +26,8 @@ pub const LINE_FEED: usize = 10;
 pub const STOPPED: usize = 256;
 
 // The byte at `at`, or 256 where the text has stopped.
+// Kept: `byte` gives 256 there, and `digit`, `met` and the laws of roundtrip test it as a number. With an `Option<u8>` each reader's arm `_` would have to be
+// proved from tests that have no names there, so the new form is no plainer.
 pub fn peek(text: &[u8], at: usize) -> usize
     ensures { result ≡ byte text.now at }
 {

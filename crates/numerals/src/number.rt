@@ -1,6 +1,6 @@
 // Numbers of a text: plain decimal, without a leading zero, of at most five digits.
-ghost use Rattle.std.specs.Prelude.{◌≡◌, ◌<◌};
-ghost use Rattle.numerals.specs.Numbers.{digit, digits, number, between, of_numeral};
+ghost use Rattle.std.specs.Prelude.{◌≡◌, ◌<◌, IfSome};
+ghost use Rattle.numerals.specs.Numbers.{digit, digits, number, between, of_digit, of_numeral};
 
 use crate::bytes::peek;
 use terms::refusal::{Cause, Refusal};
@@ -12,17 +12,18 @@ pub struct Numeral {
     pub end: usize,
 }
 
-// The value of the digit b, or 10 where b is none.
-pub fn digit_of(b: usize) -> usize
-    ensures { result ≡ digit b }
+// The value of the digit b, if it is one.
+pub fn digit_of(b: usize) -> Option<usize>
+    ensures exact { of_digit result ≡ digit b }
+    ensures below { IfSome result (λ d. d < 10) }
 {
     if b < 48 {
-        return 10;
+        return None;
     }
     if b < 58 {
-        return b - 48;
+        return Some(b - 48);
     }
-    10
+    None
 }
 
 // The digits at `at` after a first digit; `from` is the number's first byte.
@@ -32,21 +33,23 @@ pub fn read_digits(text: &[u8], from: usize, at: usize, first: usize) -> Result<
 {
     let mut v = first;
     let mut p = at;
-    let mut left: usize = 4;
-    loop {
-        let d = digit_of(peek(text, p));
-        if 10 <= d {
-            return Ok(Numeral { value: v, end: p });
+    for _ in 0..4usize {
+        match digit_of(peek(text, p)) {
+            Some(d) => {
+                v = v * 10 + d;
+                p += 1;
+            }
+            None => {
+                return Ok(Numeral { value: v, end: p });
+            }
         }
-        if left == 0 {
-            return Err(Refusal {
-                cause: Cause::Limit,
-                place: from,
-            });
-        }
-        v = v * 10 + d;
-        p += 1;
-        left -= 1;
+    }
+    match digit_of(peek(text, p)) {
+        Some(_) => Err(Refusal {
+            cause: Cause::Limit,
+            place: from,
+        }),
+        None => Ok(Numeral { value: v, end: p }),
     }
 }
 
@@ -54,26 +57,27 @@ pub fn read_digits(text: &[u8], from: usize, at: usize, first: usize) -> Result<
 pub fn read_number(text: &[u8], at: usize) -> Result<Numeral, Refusal>
     ensures { of_numeral result ≡ number text.now at }
 {
-    let first = digit_of(peek(text, at));
-    if 10 <= first {
-        return Err(Refusal {
+    match digit_of(peek(text, at)) {
+        Some(first) => {
+            if first != 0 {
+                return read_digits(text, at, at + 1, first);
+            }
+            match digit_of(peek(text, at + 1)) {
+                Some(_) => Err(Refusal {
+                    cause: Cause::Number,
+                    place: at,
+                }),
+                None => Ok(Numeral {
+                    value: 0,
+                    end: at + 1,
+                }),
+            }
+        }
+        None => Err(Refusal {
             cause: Cause::Number,
             place: at,
-        });
+        }),
     }
-    if first == 0 {
-        if digit_of(peek(text, at + 1)) < 10 {
-            return Err(Refusal {
-                cause: Cause::Number,
-                place: at,
-            });
-        }
-        return Ok(Numeral {
-            value: 0,
-            end: at + 1,
-        });
-    }
-    read_digits(text, at, at + 1, first)
 }
 
 // The number at `at`, which is to lie between two limits.

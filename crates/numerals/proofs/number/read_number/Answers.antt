@@ -5,30 +5,30 @@ use Rattle.numerals.specs.Numbers.{digit}
 use Rattle.numerals.proofs.DigitTests.{digit_there, number_none, number_led, number-zero, number_more}
 use Rattle.numerals.proofs.number.read_number.Goals as goal
 
-pub returns-then-first-ge10 : goal.returns-then-first-ge10
-returns-then-first-ge10 c =
-    sym (number_none _ _ (c.digit_of-first.ensures ∙ ap digit c.peek.ensures) c.if-first-ge10.true)
-
 pub overflow_add-at : goal.overflow_add-at
-overflow_add-at c =
-    omega (arith, digit_there _ _ (c.digit_of-first.ensures ∙ ap digit c.peek.ensures) c.if-first-ge10.false)
+overflow_add-at c = omega (arith, digit_there _ _ (c.in-Some.ensures.exact ∙ ap digit c.peek.ensures) c.in-Some.ensures.below)
 
-pub returns-then-digit_of-lt10 : goal.returns-then-digit_of-lt10
-returns-then-digit_of-lt10 c =
-    sym (number_led _ _ (c.digit_of-first.ensures ∙ ap digit c.peek.ensures) (c.digit_of.ensures ∙ ap digit c.peek-then-first-eq0.ensures) c.if-first-eq0.true c.if-digit_of-lt10.true)
+pub returns-then-first-ne0 : goal.returns-then-first-ne0
+returns-then-first-ne0 c =
+    c.read_digits.ensures ∙ sym (number_more _ _ (c.in-Some.ensures.exact ∙ ap digit c.peek.ensures) c.in-Some.ensures.below c.if-first-ne0.true)
+
+pub overflow_add-at-in-Some : goal.overflow_add-at-in-Some
+overflow_add-at-in-Some c = omega (arith, digit_there _ _ (c.in-Some.ensures.exact ∙ ap digit c.peek.ensures) c.in-Some.ensures.below)
 
 pub overflow_add-result : goal.overflow_add-result
-overflow_add-result c =
-    omega (arith, digit_there _ _ (c.digit_of-first.ensures ∙ ap digit c.peek.ensures) c.if-first-ge10.false)
+overflow_add-result c = omega (arith, digit_there _ _ (c.in-Some.ensures.exact ∙ ap digit c.peek.ensures) c.in-Some.ensures.below)
 
-pub returns-then-first-eq0 : goal.returns-then-first-eq0
-returns-then-first-eq0 c =
-    sym (number-zero _ _ (c.digit_of-first.ensures ∙ ap digit c.peek.ensures) (c.digit_of.ensures ∙ ap digit c.peek-then-first-eq0.ensures) c.if-first-eq0.true c.if-digit_of-lt10.false)
+pub returns-in-Some-digit_of : goal.returns-in-Some-digit_of
+returns-in-Some-digit_of c =
+    sym
+    (number_led _ _ (c.in-Some.ensures.exact ∙ ap digit c.peek.ensures) (c.in-Some-digit_of.ensures.exact ∙ ap digit c.peek-in-Some.ensures) c.if-first-ne0.false
+    c.in-Some-digit_of.ensures.below)
 
-pub overflow_add-at-2 : goal.overflow_add-at-2
-overflow_add-at-2 c =
-    omega (arith, digit_there _ _ (c.digit_of-first.ensures ∙ ap digit c.peek.ensures) c.if-first-ge10.false)
+pub returns-in-None-digit_of : goal.returns-in-None-digit_of
+returns-in-None-digit_of c =
+    sym
+    (number-zero _ _ (c.in-Some.ensures.exact ∙ ap digit c.peek.ensures) (c.in-None-digit_of.ensures.exact ∙ ap digit c.peek-in-Some.ensures) c.if-first-ne0.false
+    (omega arith))
 
-pub returns : goal.returns
-returns c =
-    c.read_digits.ensures ∙ sym (number_more _ _ (c.digit_of-first.ensures ∙ ap digit c.peek.ensures) c.if-first-ge10.false c.if-first-eq0.false)
+pub returns-in-None : goal.returns-in-None
+returns-in-None c = sym (number_none _ _ (c.in-None.ensures.exact ∙ ap digit c.peek.ensures) (omega arith))
