@@ -4,8 +4,8 @@ ghost use Rattle.room.specs.Room.{seg, put};
 ghost use Rattle.terms.specs.Bounds.{edition_one};
 ghost use Rattle.choices.specs.MemberPlaces.{noted, NoteParts};
 
-use rows::walk::terms_after;
 use terms::bounds::MEMBER;
+use terms::kind::terms_after;
 
 // Notes the places of a set's member marks, and then of its kernel; answers how many members there are. The set begins at the place `first` of the
 // words at `body`, of which `end` are read; places are counted from there.
@@ -26,7 +26,7 @@ pub fn note_members(
     for place in first..end {
         let word = room[body + place];
         if 0 < due {
-            due = due - 1 + terms_after(arities, word);
+            due = due - 1 + usize::from(terms_after(arities, word));
         } else {
             room[to + n] = place as u16;
             if word != MEMBER {

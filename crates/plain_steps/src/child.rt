@@ -9,7 +9,7 @@ use binding::keep::keep;
 use room::layout::HEADER;
 use rows::first::Replacement;
 use rows::parts::{DueRow, Made, Rest};
-use rows::walk::terms_after;
+use terms::kind::terms_after;
 
 // Takes the step that the first equation of the row at `from` calls for; the equation's words end at the place `end` of the row's body, and its right
 // side begins at `right`.
@@ -34,7 +34,7 @@ pub fn take_step(
         Plain::Postpone(_) => Made::from(postpone(room, rest, subject, scratch, row)),
         Plain::Decompose => {
             let body = from + HEADER;
-            let k = terms_after(arities, room[body]);
+            let k = usize::from(terms_after(arities, room[body]));
             let left = body + 1;
             let other = body + right + 1;
             Made::from(decompose(

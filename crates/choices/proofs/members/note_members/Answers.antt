@@ -1,3 +1,4 @@
+use mathlib.Core.Path.{◌∙◌}
 use borrow.Author.Rules.{rules}
 use Rattle.choices.proofs.Noting.{none_noted, numbers, note_last, word_passed, kernel-noted, mark_noted}
 use native.Mathlib.Omega.{arith}
@@ -17,7 +18,7 @@ pub bounds-room-body : goal.bounds-room-body
 bounds-room-body c = let N = numbers c.loop-place.invariant in omega arith
 
 pub overflow_add-due : goal.overflow_add-due
-overflow_add-due c = let N = numbers c.loop-place.invariant in omega (arith, c.terms_after.ensures.1)
+overflow_add-due c = let N = numbers c.loop-place.invariant in omega (arith, c.from.ensures, c.terms_after.type_inv)
 
 pub overflow_cast-room : goal.overflow_cast-room
 overflow_cast-room c = let N = numbers c.loop-place.invariant in omega arith
@@ -66,6 +67,6 @@ pub loop-place-preserved : goal.loop-place-preserved
 loop-place-preserved c =
     let S = c.loop-place.invariant in
     elim c.if-due-gt0.branch [
-      | then-due-gt0 w ↦ rw (w.room-is, w.due-is, w.n-is) (word_passed S c.loop-place-test.true w.if-due-gt0.true _ w.terms_after.ensures.0 w.terms_after.ensures.1)
+      | then-due-gt0 w ↦ rw (w.room-is, w.due-is, w.n-is) (word_passed S c.loop-place-test.true w.if-due-gt0.true _ (w.from.ensures ∙ w.terms_after.ensures) (omega (arith, w.from.ensures, w.terms_after.type_inv)))
       | else-due-gt0+else-word-ne-MEMBER w ↦ rw (w.room-is, w.due-is, w.n-is) (mark_noted S c.loop-place-test.true (omega (arith, w.if-due-gt0.false)) w.if-word-ne-MEMBER.false)
     ]

@@ -4,7 +4,7 @@ use Rattle.plain_steps.specs.Singles.{postpone_beside}
 use Rattle.plain_steps.specs.Decomposed.{decompose_beside}
 use native.Mathlib.Omega.{arith}
 use Rattle.plain_steps.specs.Plain.{of_plain}
-use mathlib.Core.Path.{ap}
+use mathlib.Core.Path.{ap, ◌∙◌}
 use Rattle.plain_steps.proofs.child.take_step.Goals as goal
 
 pub keep-requires : goal.keep-requires
@@ -69,9 +69,9 @@ returns-in-Postpone c =
 pub returns-in-Decompose : goal.returns-in-Decompose
 unfolding of_plain
 returns-in-Decompose c =
-    let terms_after_told = c.terms_after-k.ensures in
+    let terms_after_told = c.from-k.ensures ∙ c.terms_after.ensures in
     let decompose_told = c.decompose.ensures in
-    rw c.from-in-Decompose.ensures (record { taken = λ st e es node S o. decompose_arm S (ap of_plain c.in-Decompose.is) terms_after_told.0 decompose_told o; beside = λ st e es S. decompose_beside _ _ (decompose_arm_parts S (ap of_plain c.in-Decompose.is)) decompose_told })
+    rw c.from-in-Decompose.ensures (record { taken = λ st e es node S o. decompose_arm S (ap of_plain c.in-Decompose.is) terms_after_told decompose_told o; beside = λ st e es S. decompose_beside _ _ (decompose_arm_parts S (ap of_plain c.in-Decompose.is)) decompose_told })
 
 pub returns-in-Dead : goal.returns-in-Dead
 unfolding of_plain
