@@ -4,8 +4,8 @@
 //     classes  labels of places: places with one label hold equal terms
 //     scan     two sets whose members were all compared: labels tell which are equal
 //
-// In specs/, `Places` and `Classes` have what a client's contracts cite: what stands at a place, what labels say and a comparison tells. The other files are
-// laws of these: `Standing`, `Opened`, `Membership` and `Arguments` of a place, `Relabelled` and `Since` of labels.
+// In specs/, `Places`, `Lent` and `Classes` have what a client's contracts cite: what stands at a place, the same of the struct `Held`, what labels say and a
+// comparison tells. The other files are laws of these: `Standing`, `Opened`, `Membership` and `Arguments` of a place, `Relabelled` and `Since` of labels.
 #![tactic(auto)]
 
 pub mod classes;
