@@ -15,6 +15,7 @@ pub enum Next {
 }
 
 // What is told of a row's children, and whether the row's split stands open in scratch then.
+// Kept: of a split's and of another row's children each `Next` can be told, so an enum of the two would be no plainer than a flag.
 #[derive(Clone, Copy)]
 pub struct Looked {
     pub next: Next,

@@ -35,15 +35,7 @@ fn search_on(
     };
     let mut shown = None;
     loop {
-        let taken = take_turn(
-            arities,
-            limits,
-            answers,
-            room,
-            place.level,
-            place.counts,
-            shown,
-        );
+        let taken = take_turn(arities, limits, answers, room, place, shown);
         match taken.turn {
             ControlFlow::Continue(next) => {
                 place = next;

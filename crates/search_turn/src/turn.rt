@@ -4,9 +4,8 @@ ghost use Rattle.std.specs.Prelude.{◌≡◌, cond};
 ghost use Rattle.search_turn.specs.Running.{Given, Running, Turned};
 
 use children::look;
-use counters::with_nodes;
 use only_child::next::Next;
-use results::ran::{Ending, Record};
+use results::ran::Ending;
 use room::layout::HEADER;
 use search::limits::Limits;
 use std::ops::ControlFlow;
@@ -36,42 +35,43 @@ pub fn take_turn(
     limits: Limits,
     answers: &mut [u16],
     room: &mut [u16],
-    level: usize,
-    counts: Record,
+    place: Place,
     shown: Option<usize>,
 ) -> Taken
-    requires { (to : Given) × Running arities.now limits room.old answers.old level shown counts to }
-    ensures { (to : Given) → Running arities.now limits room.old answers.old level shown counts to → Turned arities.now limits room.new answers.new level counts to result.turn result.shown }
+    requires { (to : Given) × Running arities.now limits room.old answers.old place.level shown place.counts to }
+    ensures { (to : Given) → Running arities.now limits room.old answers.old place.level shown place.counts to → Turned arities.now limits room.new answers.new place.level place.counts to result.turn result.shown }
 {
     let size = limits.size;
     let stride = size + HEADER;
-    let at = level * stride;
+    let at = place.level * stride;
     let scratch = (limits.depth + 1) * stride;
     let low = at + 5;
     let high = at + 7;
     let number = number_in(&room[low..high]);
-    let most = most_passed(limits, level, counts);
-    let looked = look(arities, room, at, level, number, size, scratch, most, shown);
+    let most = most_passed(limits, place);
+    let looked = look(
+        arities,
+        room,
+        at,
+        place.level,
+        number,
+        size,
+        scratch,
+        most,
+        shown,
+    );
     match looked.next {
         Next::Spent(k) => Taken {
-            turn: back(level, with_nodes(counts, k as u64)),
+            turn: back(place.passing(k)),
             shown: shown_then(looked.opens, None, shown),
         },
         Next::Due(k) => Taken {
-            turn: ControlFlow::Break(due(limits, with_nodes(counts, k as u64))),
+            turn: ControlFlow::Break(due(limits, place.passing(k).counts)),
             shown,
         },
         Next::Node(k, node) => Taken {
-            turn: meet(
-                limits,
-                answers,
-                room,
-                level,
-                with_nodes(counts, k as u64),
-                number + k,
-                node,
-            ),
-            shown: shown_then(looked.opens, Some(level), shown),
+            turn: meet(limits, answers, room, place.passing(k), number + k, node),
+            shown: shown_then(looked.opens, Some(place.level), shown),
         },
     }
 }

@@ -1,5 +1,6 @@
 // What becomes of a node that is due: it is visited, counted and its answer noted, or the run ends.
-ghost use Rattle.std.specs.Prelude.{◌≡◌, ◌≤◌, length};
+ghost use Rattle.std.specs.Prelude.{◌≡◌, ◌+◌, ◌≤◌, ◌<◌, ◌^◌, length};
+ghost use Rattle.counters.specs.Counted.{counted};
 ghost use Rattle.rows.specs.declared.parts.Reached.TheVariants as kinds;
 ghost use Rattle.visits.specs.DueNode.{OpenParts, most_of, back_to, due_ending, node_turn, node_room, node_answers};
 
@@ -20,30 +21,44 @@ pub struct Place {
     pub counts: Record,
 }
 
+impl Place {
+    // The same row, where so many dead ends below it were passed: they are counted.
+    pub fn passing(self, dead_ends: usize) -> Place
+        requires { self.counts.visited + dead_ends < 2 ^ 64 }
+        ensures level { result.level ≡ self.level }
+        ensures counts { result.counts ≡ counted self.counts dead_ends }
+    {
+        Place {
+            counts: with_nodes(self.counts, dead_ends as u64),
+            ..self
+        }
+    }
+}
+
 // How many dead ends may be passed: none below the lent depth, and no more than there are steps left.
-pub fn most_passed(limits: Limits, level: usize, counts: Record) -> usize
-    requires { counts.visited ≤ limits.steps }
-    ensures { result ≡ most_of limits level counts }
+pub fn most_passed(limits: Limits, place: Place) -> usize
+    requires { place.counts.visited ≤ limits.steps }
+    ensures { result ≡ most_of limits place.level place.counts }
 {
-    if limits.depth <= level {
+    if limits.depth <= place.level {
         return 0;
     }
-    (limits.steps - counts.visited) as usize
+    (limits.steps - place.counts.visited) as usize
 }
 
 // No child is left: the row above goes on, or the run is done.
-pub fn back(level: usize, counts: Record) -> ControlFlow<Ending, Place>
-    ensures { result ≡ back_to level counts }
+pub fn back(place: Place) -> ControlFlow<Ending, Place>
+    ensures { result ≡ back_to place.level place.counts }
 {
-    if level == 0 {
+    if place.level == 0 {
         return ControlFlow::Break(Ending {
             end: End::Done,
-            counts,
+            counts: place.counts,
         });
     }
     ControlFlow::Continue(Place {
-        level: level - 1,
-        counts,
+        level: place.level - 1,
+        ..place
     })
 }
 
@@ -68,24 +83,23 @@ fn enter(
     limits: Limits,
     answers: &mut [u16],
     room: &mut [u16],
-    level: usize,
-    counts: Record,
+    place: Place,
     number: usize,
 ) -> ControlFlow<Ending, Place>
-    requires { OpenParts limits level room.old answers.old counts number }
-    ensures value { result ≡ node_turn limits level room.old (length answers.old) counts kinds.Live }
-    ensures room_after { room.new ≡ node_room limits level room.old number kinds.Live }
-    ensures answers_after { answers.new ≡ node_answers limits level room.old answers.old counts kinds.Live }
+    requires { OpenParts limits place.level room.old answers.old place.counts number }
+    ensures value { result ≡ node_turn limits place.level room.old (length answers.old) place.counts kinds.Live }
+    ensures room_after { room.new ≡ node_room limits place.level room.old number kinds.Live }
+    ensures answers_after { answers.new ≡ node_answers limits place.level room.old answers.old place.counts kinds.Live }
 {
     let stride = limits.size + HEADER;
-    let at = level * stride;
+    let at = place.level * stride;
     set_number(room, at, number + 1);
     let child = at + stride;
     let end = child + stride;
-    let more = with_nodes(counts, 1);
+    let more = with_nodes(place.counts, 1);
     match note(&room[child..end], answers, more) {
         Some(counts) => ControlFlow::Continue(Place {
-            level: level + 1,
+            level: place.level + 1,
             counts,
         }),
         None => ControlFlow::Break(Ending {
@@ -100,25 +114,24 @@ pub fn meet(
     limits: Limits,
     answers: &mut [u16],
     room: &mut [u16],
-    level: usize,
-    counts: Record,
+    place: Place,
     number: usize,
     node: Reached,
 ) -> ControlFlow<Ending, Place>
-    requires { node ≡ kinds.Live → OpenParts limits level room.old answers.old counts number }
-    ensures value { result ≡ node_turn limits level room.old (length answers.old) counts node }
-    ensures room_after { room.new ≡ node_room limits level room.old number node }
-    ensures answers_after { answers.new ≡ node_answers limits level room.old answers.old counts node }
+    requires { node ≡ kinds.Live → OpenParts limits place.level room.old answers.old place.counts number }
+    ensures value { result ≡ node_turn limits place.level room.old (length answers.old) place.counts node }
+    ensures room_after { room.new ≡ node_room limits place.level room.old number node }
+    ensures answers_after { answers.new ≡ node_answers limits place.level room.old answers.old place.counts node }
 {
     match node {
-        Reached::Live => enter(limits, answers, room, level, counts, number),
+        Reached::Live => enter(limits, answers, room, place, number),
         Reached::Names => ControlFlow::Break(Ending {
             end: End::Names,
-            counts,
+            counts: place.counts,
         }),
         Reached::Large => ControlFlow::Break(Ending {
             end: End::Size,
-            counts,
+            counts: place.counts,
         }),
     }
 }

@@ -27,8 +27,8 @@ look-looked-requires c =
     let R = c.requires.1 in
     (R.top.state, asks R (number-here R c.number_in-number.ensures) c.most_passed-most.ensures)
 
-pub with_nodes-requires : goal.with_nodes-requires
-with_nodes-requires c =
+pub passing-requires : goal.passing-requires
+passing-requires c =
     let R = c.requires.1 in
     omega (
       arith,
@@ -36,8 +36,8 @@ with_nodes-requires c =
           c.in-Spent.is,
     )
 
-pub with_nodes-requires-in-Due : goal.with_nodes-requires-in-Due
-with_nodes-requires-in-Due c =
+pub passing-requires-in-Due : goal.passing-requires-in-Due
+passing-requires-in-Due c =
     let R = c.requires.1 in
     omega (
       arith,
@@ -45,8 +45,8 @@ with_nodes-requires-in-Due c =
           c.in-Due.is,
     )
 
-pub with_nodes-requires-in-Node : goal.with_nodes-requires-in-Node
-with_nodes-requires-in-Node c =
+pub passing-requires-in-Node : goal.passing-requires-in-Node
+passing-requires-in-Node c =
     let R = c.requires.1 in
     omega (
       arith,
@@ -66,23 +66,26 @@ overflow_add-number c =
 pub meet-requires : goal.meet-requires
 meet-requires c =
     let R = c.requires.1 in
-    hears_parts R (number-here R c.number_in-number.ensures) c.most_passed-most.ensures (c.look-looked.ensures.looks, c.look-looked.ensures.opens_value) c.in-Node.is
-    c.with_nodes-in-Node.ensures
+    rw c.passing-in-Node.ensures.level
+    (hears_parts R (number-here R c.number_in-number.ensures) c.most_passed-most.ensures (c.look-looked.ensures.looks, c.look-looked.ensures.opens_value) c.in-Node.is
+    c.passing-in-Node.ensures.counts)
 
 pub returns-in-Spent : goal.returns-in-Spent
 returns-in-Spent c =
     λ to R.
     hears_spent R (number-here R c.number_in-number.ensures) c.most_passed-most.ensures (c.look-looked.ensures.looks, c.look-looked.ensures.opens_value) c.in-Spent.is
-    c.with_nodes.ensures c.back.ensures c.shown_then.ensures
+    c.passing.ensures.counts (rw c.passing.ensures.level at c.back.ensures) c.shown_then.ensures
 
 pub returns-in-Due : goal.returns-in-Due
 returns-in-Due c =
     λ to R.
     hears_due R (number-here R c.number_in-number.ensures) c.most_passed-most.ensures (c.look-looked.ensures.looks, c.look-looked.ensures.opens_value) c.in-Due.is
-    c.with_nodes-in-Due.ensures c.due.ensures
+    c.passing-in-Due.ensures.counts c.due.ensures
 
 pub returns-in-Node : goal.returns-in-Node
 returns-in-Node c =
     λ to R.
     hears_node R (number-here R c.number_in-number.ensures) c.most_passed-most.ensures (c.look-looked.ensures.looks, c.look-looked.ensures.opens_value) c.in-Node.is
-    c.with_nodes-in-Node.ensures (c.meet.ensures.value, (c.meet.ensures.room_after, c.meet.ensures.answers_after)) c.shown_then-in-Node.ensures
+    c.passing-in-Node.ensures.counts
+    (rw c.passing-in-Node.ensures.level at c.meet.ensures.value, (rw c.passing-in-Node.ensures.level at c.meet.ensures.room_after, rw c.passing-in-Node.ensures.level at c.meet.ensures.answers_after))
+    c.shown_then-in-Node.ensures

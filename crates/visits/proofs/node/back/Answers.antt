@@ -3,10 +3,10 @@ use borrow.Author.Tests.{eq-eqb, ne_eqb}
 use Rattle.visits.specs.DueNode.{back_to}
 use Rattle.visits.proofs.node.back.Goals as goal
 
-pub returns-then-level-eq0 : goal.returns-then-level-eq0
+pub returns-then-place-eq0 : goal.returns-then-place-eq0
 unfolding back_to
-returns-then-level-eq0 c = rw (eq-eqb _ _ c.if-level-eq0.true)
+returns-then-place-eq0 c = rw (eq-eqb _ _ c.if-place-eq0.true)
 
 pub returns : goal.returns
 unfolding back_to
-returns c = rw (ne_eqb _ _ c.if-level-eq0.false)
+returns c = rw (ne_eqb _ _ c.if-place-eq0.false)
