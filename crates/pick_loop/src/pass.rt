@@ -33,14 +33,14 @@ fn pick_after(
     if !advance(room, sides.n, first, sides.m, second, picks) {
         return Next::Spent(1);
     }
-    let parent = OpenSplit {
-        from: at,
-        rest,
-        sides,
-        scratch,
-    };
-    let row = DueRow { to, size, next };
     for k in 1..most {
+        let parent = OpenSplit {
+            from: at,
+            rest,
+            sides,
+            scratch,
+        };
+        let row = DueRow { to, size, next };
         let made = split(arities, room, parent, tails, row);
         if let Some(node) = reached(made) {
             return Next::Node(k, node);
