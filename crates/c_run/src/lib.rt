@@ -9,6 +9,7 @@ ghost use Rattle.c_run.specs.RunFromC.{RunReplied};
 
 use c_replies::tell_ran;
 
+// Kept: the parameters are those of the call that C makes.
 pub fn call_run(
     unknowns: usize,
     arities: &[u8],

@@ -4,6 +4,7 @@ use case_fields::hex::put_hex;
 use case_fields::list::put_list;
 use word_writer::put::{put_byte, put_bytes, put_number};
 
+// Kept: a line of results has one of these seven forms, and a refusal is one of them.
 #[derive(Clone, Copy)]
 pub enum Answer<'a> {
     // a question that was read

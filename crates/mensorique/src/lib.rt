@@ -119,6 +119,7 @@ pub fn solves(
 //   must have. The room's later words are not told, except that a refusal leaves them alone.
 //   Example: 1, [0], 1, [1000, 1, 2000, 1000], which is x0 = {f0|x0}, steps 3, depth 2, size 4, five answer words and a room of 120 give Done, visited 3, one
 //   answer of 5 words, 1 0 1 2000 1001: one binding, x0 = {f0|x1}.
+// Kept: the parameters are what docs/SPECIFICATION.md (8.6) lists as lent, one by one, and what C lends.
 pub fn run(
     unknowns: usize,
     arities: &[u8],

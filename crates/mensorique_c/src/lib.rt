@@ -26,6 +26,7 @@ use c_verdicts::tell_verdict;
 use room::layout::{HEADER, SPARE_ROWS};
 use search::limits::Limits;
 
+// Kept: the parameters are those of include/mensorique.h.
 #[unsafe(no_mangle)]
 pub extern "C" fn mensorique_read_question(
     text: &[u8],
@@ -63,6 +64,7 @@ pub extern "C" fn mensorique_write_question(
     tell_written(written, length, place)
 }
 
+// Kept: the parameters are those of include/mensorique.h.
 #[unsafe(no_mangle)]
 pub extern "C" fn mensorique_write_answers(
     arities: &[u8],
@@ -113,6 +115,7 @@ pub extern "C" fn mensorique_solves(
     tell_verdict(verdict, solves, place)
 }
 
+// Kept: the parameters are those of include/mensorique.h.
 #[unsafe(no_mangle)]
 pub extern "C" fn mensorique_run(
     unknowns: usize,
@@ -141,6 +144,7 @@ pub extern "C" fn mensorique_run(
 }
 
 // (depth + 8) * (size + 8), or 0 where a limit is exceeded.
+// Kept: C is told so, as include/mensorique.h says.
 #[unsafe(no_mangle)]
 pub extern "C" fn mensorique_room_words(depth: usize, size: usize) -> usize
     ensures { result ≡ room_words depth size }

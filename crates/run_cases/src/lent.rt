@@ -9,6 +9,7 @@ use solver::run;
 use terms::refusal::{Cause, Refusal, number_of};
 
 // How a run comes out for which there may be less to lend than its case lends.
+// Kept: `Short` is neither an end nor a refusal, and an error type for it and for refusals would be matched at the same three places.
 #[derive(Clone, Copy)]
 pub enum Outcome {
     Ended(Ending),

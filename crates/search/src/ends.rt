@@ -2,6 +2,7 @@
 ghost use Rattle.std.specs.Prelude.{◌≡◌};
 ghost use Rattle.search.specs.Ends.{end_number, end_of};
 
+// Kept: `Space` is no lack of a value, but one of the six ends of that table.
 #[derive(Clone, Copy)]
 pub enum End {
     // every node was visited and every answer held

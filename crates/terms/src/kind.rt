@@ -6,6 +6,7 @@ ghost use Rattle.terms.specs.Kind.{kind, takes, within};
 use crate::bounds::{AFTER_FUNCTORS, EMPTY, FIRST_FUNCTOR, FIRST_UNKNOWN, MEMBER};
 
 // The empty set, a member adding, an unknown or a functor by its number; or nothing.
+// Kept: `Nothing` is a row of the table that the definition `kind` states, and every match would have one level more for `Option<Kind>`.
 #[derive(Clone, Copy)]
 pub enum Kind {
     Empty,

@@ -7,6 +7,7 @@ ghost use Rattle.terms.specs.Laws.Walk.{span};
 use terms::kind::terms_after;
 
 // The place after so many terms, or the length where words stop before that.
+// Kept: the length is the place where the walk ends, as the definition `span` counts it, and no lack of one; docs/PROMISES.md names this contract.
 pub fn terms_end(arities: &[u8], words: &[u16], from: usize, terms: usize) -> usize
     requires { from ≤ length words.now }
     ensures { result ≡ from + span edition_one arities.now (drop from words.now) terms }
