@@ -12,7 +12,7 @@ use crate::pile::replace_part;
 use replace::Replacement;
 use room::layout::HEADER;
 use rows::header::{Header, seal};
-use rows::parts::{DueRow, Part, Rest};
+use rows::parts::{Part, Rest};
 use terms::kind::unknown_number;
 
 // The pending equations, then the released entries, which are those of x.
@@ -70,14 +70,15 @@ fn finish_bindings(
     room: &mut [u16],
     rest: Rest,
     swap: Replacement,
-    row: DueRow,
+    to: usize,
     pending: usize,
     pile: usize,
+    size: usize,
+    next: usize,
 ) -> Option<()>
-    requires { FinishParts room.old rest swap.by swap.m row.to (pending + pile) row.size swap.x row.next }
-    ensures { Finished room.old row.to (pending + pile) row.size (bound_bindings room.old rest swap.x swap.by swap.m) (header_of (bound_header rest pending pile swap.m row.next)) (of_sized result) room.new }
+    requires { FinishParts room.old rest swap.by swap.m to (pending + pile) size swap.x next }
+    ensures { Finished room.old to (pending + pile) size (bound_bindings room.old rest swap.x swap.by swap.m) (header_of (bound_header rest pending pile swap.m next)) (of_sized result) room.new }
 {
-    let DueRow { to, size, next } = row;
     let start = pending + pile;
     let k = bind_last(room, rest, swap, to + HEADER + start, size - start)?;
     let bindings = rest.bindings + 1;
@@ -102,11 +103,13 @@ pub fn finish_pile(
     room: &mut [u16],
     rest: Rest,
     swap: Replacement,
-    row: DueRow,
+    to: usize,
     pending: usize,
+    size: usize,
+    next: usize,
 ) -> Option<()>
-    requires { FinishParts room.old rest swap.by swap.m row.to pending row.size swap.x row.next }
-    ensures { Finished room.old row.to pending row.size (bound_pile edition_one arities.now room.old rest swap.x swap.by swap.m ++ bound_bindings room.old rest swap.x swap.by swap.m) (header_of (bound_header rest pending (length (bound_pile edition_one arities.now room.old rest swap.x swap.by swap.m)) swap.m row.next)) (of_sized result) room.new }
+    requires { FinishParts room.old rest swap.by swap.m to pending size swap.x next }
+    ensures { Finished room.old to pending size (bound_pile edition_one arities.now room.old rest swap.x swap.by swap.m ++ bound_bindings room.old rest swap.x swap.by swap.m) (header_of (bound_header rest pending (length (bound_pile edition_one arities.now room.old rest swap.x swap.by swap.m)) swap.m next)) (of_sized result) room.new }
 {
     let at = rest.at + rest.pending;
     let k = replace_part(
@@ -116,10 +119,10 @@ pub fn finish_pile(
         at,
         rest.pile,
         swap,
-        row.to + HEADER + pending,
-        row.size - pending,
+        to + HEADER + pending,
+        size - pending,
     )?;
-    finish_bindings(room, rest, swap, row, pending, k)
+    finish_bindings(room, rest, swap, to, pending, k, size, next)
 }
 
 // A child's row, of whose body the new equations are written, so many words: the rest of the parent's row with x bound to the words of the swap.
@@ -128,19 +131,21 @@ pub fn finish(
     room: &mut [u16],
     rest: Rest,
     swap: Replacement,
-    row: DueRow,
+    to: usize,
     written: usize,
+    size: usize,
+    next: usize,
 ) -> Option<()>
-    requires { FinishParts room.old rest swap.by swap.m row.to written row.size swap.x row.next }
-    ensures { Finished room.old row.to written row.size (bound_body edition_one arities.now room.old rest swap.x swap.by swap.m) (header_of (bound_header rest (written + length (bound_pending edition_one arities.now room.old rest swap.x swap.by swap.m)) (length (bound_pile edition_one arities.now room.old rest swap.x swap.by swap.m)) swap.m row.next)) (of_sized result) room.new }
+    requires { FinishParts room.old rest swap.by swap.m to written size swap.x next }
+    ensures { Finished room.old to written size (bound_body edition_one arities.now room.old rest swap.x swap.by swap.m) (header_of (bound_header rest (written + length (bound_pending edition_one arities.now room.old rest swap.x swap.by swap.m)) (length (bound_pile edition_one arities.now room.old rest swap.x swap.by swap.m)) swap.m next)) (of_sized result) room.new }
 {
     let k = bind_pending(
         arities,
         room,
         rest,
         swap,
-        row.to + HEADER + written,
-        row.size - written,
+        to + HEADER + written,
+        size - written,
     )?;
-    finish_pile(arities, room, rest, swap, row, written + k)
+    finish_pile(arities, room, rest, swap, to, written + k, size, next)
 }

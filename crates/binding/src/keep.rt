@@ -9,7 +9,7 @@ ghost use Rattle.binding.specs.Keep.{kept_piece, kept_header};
 
 use room::layout::HEADER;
 use rows::header::{Header, seal};
-use rows::parts::{DueRow, Rest};
+use rows::parts::Rest;
 
 // The pending equations and the pile, the m words at `by`, then the bindings.
 fn keep_rest(
@@ -41,13 +41,14 @@ pub fn keep(
     rest: Rest,
     by: usize,
     m: usize,
-    row: DueRow,
+    to: usize,
     written: usize,
+    size: usize,
+    next: usize,
 ) -> Option<()>
-    requires { FinishParts room.old rest by m row.to written row.size FIRST_UNKNOWN row.next }
-    ensures { Finished room.old row.to written row.size (kept_piece room.old rest by m) (header_of (kept_header rest written m row.next)) (of_sized result) room.new }
+    requires { FinishParts room.old rest by m to written size FIRST_UNKNOWN next }
+    ensures { Finished room.old to written size (kept_piece room.old rest by m) (header_of (kept_header rest written m next)) (of_sized result) room.new }
 {
-    let DueRow { to, size, next } = row;
     let k = keep_rest(room, rest, by, m, to + HEADER + written, size - written)?;
     let pending = written + rest.pending;
     let pile = rest.pile + m;

@@ -3,7 +3,6 @@ ghost use Rattle.choices.specs.Open.{OpenParts, SidesOpened};
 
 use crate::members::note_members;
 use room::layout::HEADER;
-use rows::parts::Rest;
 
 // The numbers of members of its two sides; where the right side begins, and where it ends; where the two tails stand. Places are counted from the
 // body's first word.
@@ -15,16 +14,6 @@ pub struct Sides {
     pub end: usize,
     pub s: usize,
     pub r: usize,
-}
-
-// A split that stands open: where its row begins, what is left of the row after the first equation, the sides of that equation, and where the three rows
-// of scratch begin in which the places of their members and the picks are noted.
-#[derive(Clone, Copy)]
-pub struct OpenSplit {
-    pub from: usize,
-    pub rest: Rest,
-    pub sides: Sides,
-    pub scratch: usize,
 }
 
 // Notes the members of both sides of the first equation, whose right side begins at `right` and ends at `end`, in the first two rows of scratch.

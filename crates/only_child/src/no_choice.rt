@@ -10,7 +10,7 @@ use plain_steps::child::take_step;
 use plain_steps::plain::Forced;
 use room::layout::HEADER;
 use rows::first::subject_of;
-use rows::parts::{DueRow, Rest};
+use rows::parts::Rest;
 
 // The children of the row at `at` from `number` on; `rest` is what is left of the row after its first equation. What is laid out lies after the three
 // rows of scratch in which a split may stand open.
@@ -39,17 +39,18 @@ pub fn step_on(
     let last = body + first.end;
     let subject = subject_of(&room[body..last], body, first.right, first.end);
     let to = at + (size + HEADER);
-    let row = DueRow { to, size, next };
     let aside = scratch + 3 * (size + HEADER);
     let step = first.step;
     told_of(take_step(
         arities,
         room,
         at,
-        row,
+        to,
         aside,
+        size,
         first.right,
         first.end,
+        next,
         rest,
         subject,
         step,

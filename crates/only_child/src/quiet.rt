@@ -8,7 +8,6 @@ use plain_steps::join::join;
 use room::layout::HEADER;
 use rows::first::rest_of;
 use rows::header::Header;
-use rows::parts::DueRow;
 
 // The children of the row at `at` from `number` on. Its pile is laid out after the three rows of scratch in which a split may stand open.
 pub fn join_pile(
@@ -36,10 +35,5 @@ pub fn join_pile(
     let rest = rest_of(at, header, 0);
     let to = at + (size + HEADER);
     let aside = scratch + 3 * (size + HEADER);
-    let row = DueRow {
-        to,
-        size,
-        next: header.next,
-    };
-    told_of(join(arities, room, rest, aside, row))
+    told_of(join(arities, room, rest, aside, to, size, header.next))
 }

@@ -3,10 +3,10 @@ ghost use Rattle.choices.specs.OpenParent.{Parent};
 ghost use Rattle.pick_loop.specs.PicksInScratch.{Picks, PicksAt, Ended, EndedAt, Picked};
 
 use choices::picks::advance;
-use choices::sides::{OpenSplit, Sides};
+use choices::sides::Sides;
 use only_child::next::{Next, reached};
 use room::layout::HEADER;
-use rows::parts::{DueRow, Rest};
+use rows::parts::Rest;
 use search::steps::Tails;
 use splits::split::split;
 
@@ -34,14 +34,9 @@ fn pick_after(
         return Next::Spent(1);
     }
     for k in 1..most {
-        let parent = OpenSplit {
-            from: at,
-            rest,
-            sides,
-            scratch,
-        };
-        let row = DueRow { to, size, next };
-        let made = split(arities, room, parent, tails, row);
+        let made = split(
+            arities, room, at, rest, sides, tails, to, size, next, scratch,
+        );
         if let Some(node) = reached(made) {
             return Next::Node(k, node);
         }
@@ -74,14 +69,9 @@ pub fn pick_from(
         return Next::Due(0);
     }
     let to = at + (size + HEADER);
-    let parent = OpenSplit {
-        from: at,
-        rest,
-        sides,
-        scratch,
-    };
-    let row = DueRow { to, size, next };
-    let made = split(arities, room, parent, tails, row);
+    let made = split(
+        arities, room, at, rest, sides, tails, to, size, next, scratch,
+    );
     match reached(made) {
         None => pick_after(
             arities, room, at, rest, sides, tails, first, second, size, next, scratch, most,

@@ -8,7 +8,7 @@ use binding::bind::finish;
 use binding::keep::keep;
 use room::layout::HEADER;
 use rows::first::Replacement;
-use rows::parts::{DueRow, Made, Rest};
+use rows::parts::{Made, Rest};
 use terms::kind::terms_after;
 
 // Takes the step that the first equation of the row at `from` calls for; the equation's words end at the place `end` of the row's body, and its right
@@ -17,21 +17,23 @@ pub fn take_step(
     arities: &[u8],
     room: &mut [u16],
     from: usize,
-    row: DueRow,
+    to: usize,
     scratch: usize,
+    size: usize,
     right: usize,
     end: usize,
+    next: usize,
     rest: Rest,
     subject: Replacement,
     step: Plain,
 ) -> Made
-    requires { StepAt arities.now room.old from row.to scratch row.size right end row.next rest subject (of_plain step) }
-    ensures { Taken arities.now room.old from row.to scratch row.size right end row.next rest subject (of_plain step) result room.new }
+    requires { StepAt arities.now room.old from to scratch size right end next rest subject (of_plain step) }
+    ensures { Taken arities.now room.old from to scratch size right end next rest subject (of_plain step) result room.new }
 {
     match step {
-        Plain::Drop => Made::from(keep(room, rest, from, 0, row, 0)),
-        Plain::Bind(_) => Made::from(finish(arities, room, rest, subject, row, 0)),
-        Plain::Postpone(_) => Made::from(postpone(room, rest, subject, scratch, row)),
+        Plain::Drop => Made::from(keep(room, rest, from, 0, to, 0, size, next)),
+        Plain::Bind(_) => Made::from(finish(arities, room, rest, subject, to, 0, size, next)),
+        Plain::Postpone(_) => Made::from(postpone(room, rest, subject, scratch, to, size, next)),
         Plain::Decompose => {
             let body = from + HEADER;
             let k = usize::from(terms_after(arities, room[body]));
@@ -46,7 +48,9 @@ pub fn take_step(
                 right - 1,
                 other,
                 end - right - 1,
-                row,
+                to,
+                size,
+                next,
             ))
         }
         Plain::Dead => Made::Dead,

@@ -12,7 +12,7 @@ ghost use Rattle.plain_steps.specs.StepParts.{postponed, PostponeParts, PairPart
 use binding::keep::keep;
 use room::layout::HEADER;
 use rows::first::Replacement;
-use rows::parts::{DueRow, Rest};
+use rows::parts::Rest;
 use rows::walk::end_of_term;
 
 // The equation moves to the end of the pile. Its entry, the unknown's word and the term's words, is laid out at a place of its own first.
@@ -21,16 +21,18 @@ pub fn postpone(
     rest: Rest,
     subject: Replacement,
     entry: usize,
-    row: DueRow,
+    to: usize,
+    size: usize,
+    next: usize,
 ) -> Option<()>
-    requires { PostponeParts room.old rest subject entry row.to row.size row.next }
-    ensures { Finished (postponed room.old subject entry) row.to 0 row.size (kept_piece (postponed room.old subject entry) rest entry (subject.m + 1)) (header_of (kept_header rest 0 (subject.m + 1) row.next)) (of_sized result) room.new }
+    requires { PostponeParts room.old rest subject entry to size next }
+    ensures { Finished (postponed room.old subject entry) to 0 size (kept_piece (postponed room.old subject entry) rest entry (subject.m + 1)) (header_of (kept_header rest 0 (subject.m + 1) next)) (of_sized result) room.new }
 {
     let by = subject.by;
     let m = subject.m;
     room[entry] = subject.x;
     room::copy(room, by, m, entry + 1);
-    keep(room, rest, entry, m + 1, row, 0)
+    keep(room, rest, entry, m + 1, to, 0, size, next)
 }
 
 // The numbers of words of two arguments.
@@ -97,11 +99,13 @@ pub fn decompose(
     n: usize,
     right: usize,
     m: usize,
-    row: DueRow,
+    to: usize,
+    size: usize,
+    next: usize,
 ) -> Option<()>
-    requires { DecomposeParts room.old rest left n right m row.to row.size row.next }
-    ensures { Finished (decomposed edition_one arities.now room.old k left n right m row.to) row.to (length (paired edition_one arities.now k (seg room.old left n) (seg room.old right m))) row.size (kept_piece (decomposed edition_one arities.now room.old k left n right m row.to) rest left 0) (header_of (kept_header rest (length (paired edition_one arities.now k (seg room.old left n) (seg room.old right m))) 0 row.next)) (of_sized result) room.new }
+    requires { DecomposeParts room.old rest left n right m to size next }
+    ensures { Finished (decomposed edition_one arities.now room.old k left n right m to) to (length (paired edition_one arities.now k (seg room.old left n) (seg room.old right m))) size (kept_piece (decomposed edition_one arities.now room.old k left n right m to) rest left 0) (header_of (kept_header rest (length (paired edition_one arities.now k (seg room.old left n) (seg room.old right m))) 0 next)) (of_sized result) room.new }
 {
-    let written = pair_all(arities, room, k, left, n, right, m, row.to + HEADER);
-    keep(room, rest, left, 0, row, written)
+    let written = pair_all(arities, room, k, left, n, right, m, to + HEADER);
+    keep(room, rest, left, 0, to, written, size, next)
 }

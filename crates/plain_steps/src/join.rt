@@ -8,7 +8,7 @@ ghost use Rattle.plain_steps.specs.JoinLaid.{JoinParts, Joined};
 
 use binding::bind::finish_pile;
 use rows::first::Replacement;
-use rows::parts::{DueRow, Made, Rest};
+use rows::parts::{Made, Rest};
 use rows::walk::{end_of_term, is_in, place_of_kernel};
 use terms::bounds::PATH_UNKNOWNS;
 use terms::kind::unknown_word;
@@ -38,11 +38,18 @@ fn gather(arities: &[u8], room: &mut [u16], from: usize, n: usize, x: u16, to: u
 }
 
 // The pile's first unknown is bound to the members of all its entries, which are laid out at `value`, over a new unknown; its entries leave the pile.
-pub fn join(arities: &[u8], room: &mut [u16], rest: Rest, value: usize, row: DueRow) -> Made
-    requires { JoinParts room.old rest value row.to row.size row.next }
-    ensures { Joined arities.now room.old rest value row.to row.size row.next result room.new }
+pub fn join(
+    arities: &[u8],
+    room: &mut [u16],
+    rest: Rest,
+    value: usize,
+    to: usize,
+    size: usize,
+    next: usize,
+) -> Made
+    requires { JoinParts room.old rest value to size next }
+    ensures { Joined arities.now room.old rest value to size next result room.new }
 {
-    let DueRow { to, size, next } = row;
     let at = rest.at;
     let x = room[at];
     let m = gather(arities, room, at, rest.pile, x, value);
@@ -59,10 +66,5 @@ pub fn join(arities: &[u8], room: &mut [u16], rest: Rest, value: usize, row: Due
         by: value,
         m: m + 1,
     };
-    let named = DueRow {
-        to,
-        size,
-        next: next + 1,
-    };
-    Made::from(finish_pile(arities, room, rest, subject, named, 0))
+    Made::from(finish_pile(arities, room, rest, subject, to, 0, size, next + 1))
 }

@@ -44,14 +44,6 @@ pub struct Rest {
     pub bindings: usize,
 }
 
-// A child's row that is due: where it begins, how many words its body may have, and the next unknown.
-#[derive(Clone, Copy)]
-pub struct DueRow {
-    pub to: usize,
-    pub size: usize,
-    pub next: usize,
-}
-
 // Which entries of a pile.
 #[derive(Clone, Copy)]
 pub enum Part {

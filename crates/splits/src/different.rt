@@ -8,11 +8,11 @@ ghost use Rattle.search.specs.declared.steps.Tails.TheVariants.{Different};
 ghost use Rattle.tails.specs.Due.{ChildParts, ChildMade};
 
 use binding::bind::finish;
-use choices::sides::{OpenSplit, Sides};
+use choices::sides::Sides;
 use replace::Replacement;
 use room::layout::HEADER;
 use rows::first::{read_header, rest_of};
-use rows::parts::{DueRow, Made};
+use rows::parts::{Made, Rest};
 use rows::walk::is_in;
 use tails::bound_tail::bound;
 use tails::joined_members::tail_members;
@@ -20,7 +20,6 @@ use terms::bounds::PATH_UNKNOWNS;
 use terms::kind::unknown_word;
 
 // The numbers of words of U and of T, each member with its mark.
-// Kept: `Pair` of plain_steps has two numbers too, of the two sides of an argument equation; one struct for both could name neither.
 #[derive(Clone, Copy)]
 pub struct Joined {
     pub u: usize,
@@ -67,15 +66,17 @@ fn bind_again(
     room: &mut [u16],
     between: usize,
     swap: Replacement,
-    row: DueRow,
+    to: usize,
+    size: usize,
+    next: usize,
 ) -> Option<()>
-    requires { AgainParts arities.now room.old between swap.x swap.by swap.m row.to row.size row.next }
-    ensures { AgainMade arities.now room.old between swap.x swap.by swap.m row.to row.size row.next (of_sized result) room.new }
+    requires { AgainParts arities.now room.old between swap.x swap.by swap.m to size next }
+    ensures { AgainMade arities.now room.old between swap.x swap.by swap.m to size next (of_sized result) room.new }
 {
     let last = between + 5;
     let header = read_header(&room[between..last]);
     let rest = rest_of(between, header, 0);
-    finish(arities, room, rest, swap, row, 0)
+    finish(arities, room, rest, swap, to, 0, size, next)
 }
 
 // Puts the new unknown's word after U and after T, and writes {T|N} with s replaced by {U|N} to the sixth row of scratch.
@@ -109,19 +110,23 @@ fn share(
 fn bind_twice(
     arities: &[u8],
     room: &mut [u16],
-    parent: OpenSplit,
+    from: usize,
+    rest: Rest,
+    sides: Sides,
     s: u16,
     u: usize,
     r: u16,
     m: usize,
-    row: DueRow,
+    to: usize,
+    size: usize,
+    next: usize,
+    scratch: usize,
 ) -> Option<()>
-    requires { TwiceParts arities.now room.old parent.from parent.rest parent.sides s u r m row.to row.size row.next parent.scratch }
-    ensures { TwiceMade arities.now room.old parent.from parent.rest parent.sides s u r m row.to row.size row.next parent.scratch (of_sized result) room.new }
+    requires { TwiceParts arities.now room.old from rest sides s u r m to size next scratch }
+    ensures { TwiceMade arities.now room.old from rest sides s u r m to size next scratch (of_sized result) room.new }
 {
-    let DueRow { to, size, next } = row;
     let stride = size + HEADER;
-    let first = parent.scratch + stride + stride + stride;
+    let first = scratch + stride + stride + stride;
     let value = first + stride + stride;
     let between = value + stride;
     let named = next + 1;
@@ -131,50 +136,52 @@ fn bind_twice(
         m: u,
     };
     let upper = Replacement { x: r, by: value, m };
-    let half = DueRow {
-        to: between,
-        size,
-        next: named,
-    };
-    let whole = DueRow {
-        to,
-        size,
-        next: named,
-    };
-    bound(arities, room, parent, lower, half)?;
-    bind_again(arities, room, between, upper, whole)
+    bound(
+        arities, room, from, rest, sides, lower, between, size, named, scratch,
+    )?;
+    bind_again(arities, room, between, upper, to, size, named)
 }
 
 // The new unknown after U and T, then both bindings.
 fn renew(
     arities: &[u8],
     room: &mut [u16],
-    parent: OpenSplit,
+    from: usize,
+    rest: Rest,
+    sides: Sides,
     joined: Joined,
     s: u16,
     r: u16,
-    row: DueRow,
+    to: usize,
+    size: usize,
+    next: usize,
+    scratch: usize,
 ) -> Option<()>
-    requires { RenewParts arities.now room.old parent.from parent.rest parent.sides joined s r row.to row.size row.next parent.scratch }
-    ensures { RenewMade arities.now room.old parent.from parent.rest parent.sides joined s r row.to row.size row.next parent.scratch (of_sized result) room.new }
+    requires { RenewParts arities.now room.old from rest sides joined s r to size next scratch }
+    ensures { RenewMade arities.now room.old from rest sides joined s r to size next scratch (of_sized result) room.new }
 {
     let u = joined.u + 1;
-    let m = share(room, joined, s, row.next, row.size, parent.scratch)?;
-    bind_twice(arities, room, parent, s, u, r, m, row)
+    let m = share(room, joined, s, next, size, scratch)?;
+    bind_twice(
+        arities, room, from, rest, sides, s, u, r, m, to, size, next, scratch,
+    )
 }
 
 // Different unknowns.
-pub fn different(arities: &[u8], room: &mut [u16], parent: OpenSplit, row: DueRow) -> Made
-    requires { ChildParts arities.now room.old parent.from parent.rest parent.sides Different row.to row.size row.next parent.scratch }
-    ensures { ChildMade arities.now room.old parent.from parent.rest parent.sides Different row.to row.size row.next parent.scratch result room.new }
+pub fn different(
+    arities: &[u8],
+    room: &mut [u16],
+    from: usize,
+    rest: Rest,
+    sides: Sides,
+    to: usize,
+    size: usize,
+    next: usize,
+    scratch: usize,
+) -> Made
+    requires { ChildParts arities.now room.old from rest sides Different to size next scratch }
+    ensures { ChildMade arities.now room.old from rest sides Different to size next scratch result room.new }
 {
-    let OpenSplit {
-        from,
-        sides,
-        scratch,
-        ..
-    } = parent;
-    let DueRow { size, next, .. } = row;
     let stride = size + HEADER;
     let first = scratch + stride + stride + stride;
     let second = first + stride;
@@ -189,5 +196,7 @@ pub fn different(arities: &[u8], room: &mut [u16], parent: OpenSplit, row: DueRo
     if PATH_UNKNOWNS <= next {
         return Made::Names;
     }
-    Made::from(renew(arities, room, parent, joined, s, r, row))
+    Made::from(renew(
+        arities, room, from, rest, sides, joined, s, r, to, size, next, scratch,
+    ))
 }

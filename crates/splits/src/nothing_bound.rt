@@ -9,10 +9,10 @@ ghost use Rattle.splits.specs.KeptTails.{tails_piece, TailsParts, EntryParts, En
 
 use binding::keep::keep;
 use choices::equations::equations;
-use choices::sides::{OpenSplit, Sides};
+use choices::sides::Sides;
 use replace::Replacement;
 use room::layout::HEADER;
-use rows::parts::DueRow;
+use rows::parts::Rest;
 use tails::joined_members::tail_members;
 
 // The equation of the two tails.
@@ -38,17 +38,20 @@ fn tails_equation(
 }
 
 // Neither tail is an unknown: s = r is the last new equation. Its first word stands for itself, so that the equations are copied as they are.
-pub fn neither(arities: &[u8], room: &mut [u16], parent: OpenSplit, row: DueRow) -> Option<()>
-    requires { ChildParts arities.now room.old parent.from parent.rest parent.sides Neither row.to row.size row.next parent.scratch }
-    ensures { ChildMade arities.now room.old parent.from parent.rest parent.sides Neither row.to row.size row.next parent.scratch (of_sized result) room.new }
+pub fn neither(
+    arities: &[u8],
+    room: &mut [u16],
+    from: usize,
+    rest: Rest,
+    sides: Sides,
+    to: usize,
+    size: usize,
+    next: usize,
+    scratch: usize,
+) -> Option<()>
+    requires { ChildParts arities.now room.old from rest sides Neither to size next scratch }
+    ensures { ChildMade arities.now room.old from rest sides Neither to size next scratch (of_sized result) room.new }
 {
-    let OpenSplit {
-        from,
-        rest,
-        sides,
-        scratch,
-    } = parent;
-    let DueRow { to, size, .. } = row;
     let stride = size + HEADER;
     let us = scratch + stride;
     let picks = us + stride;
@@ -70,7 +73,7 @@ pub fn neither(arities: &[u8], room: &mut [u16], parent: OpenSplit, row: DueRow)
         size,
     )?;
     let v = tails_equation(room, from, sides, to + HEADER + w, size - w)?;
-    keep(room, rest, by, 0, row, w + v)
+    keep(room, rest, by, 0, to, w + v, size, next)
 }
 
 // Lays out the entry X = {T,U|X}, where X is both tails; answers how many words it has, none where no member joins.
@@ -97,17 +100,20 @@ fn lay_entry(room: &mut [u16], from: usize, sides: Sides, size: usize, scratch: 
 }
 
 // Both tails are the same unknown.
-pub fn same(arities: &[u8], room: &mut [u16], parent: OpenSplit, row: DueRow) -> Option<()>
-    requires { ChildParts arities.now room.old parent.from parent.rest parent.sides Same row.to row.size row.next parent.scratch }
-    ensures { ChildMade arities.now room.old parent.from parent.rest parent.sides Same row.to row.size row.next parent.scratch (of_sized result) room.new }
+pub fn same(
+    arities: &[u8],
+    room: &mut [u16],
+    from: usize,
+    rest: Rest,
+    sides: Sides,
+    to: usize,
+    size: usize,
+    next: usize,
+    scratch: usize,
+) -> Option<()>
+    requires { ChildParts arities.now room.old from rest sides Same to size next scratch }
+    ensures { ChildMade arities.now room.old from rest sides Same to size next scratch (of_sized result) room.new }
 {
-    let OpenSplit {
-        from,
-        rest,
-        sides,
-        scratch,
-    } = parent;
-    let DueRow { to, size, .. } = row;
     let stride = size + HEADER;
     let us = scratch + stride;
     let picks = us + stride;
@@ -130,5 +136,5 @@ pub fn same(arities: &[u8], room: &mut [u16], parent: OpenSplit, row: DueRow) ->
         to + HEADER,
         size,
     )?;
-    keep(room, rest, value, l, row, w)
+    keep(room, rest, value, l, to, w, size, next)
 }

@@ -4,30 +4,28 @@ ghost use Rattle.tails.specs.Bound.{BoundMade, TailMade, BoundParts};
 
 use binding::bind::finish;
 use choices::equations::equations;
-use choices::sides::OpenSplit;
+use choices::sides::Sides;
 use replace::Replacement;
 use room::layout::HEADER;
-use rows::parts::{DueRow, Made};
+use rows::parts::{Made, Rest};
 use rows::walk::is_in;
 
 // The new equations with the words of the swap for each x, then the finish of the binding of x to them.
 pub fn bound(
     arities: &[u8],
     room: &mut [u16],
-    parent: OpenSplit,
+    from: usize,
+    rest: Rest,
+    sides: Sides,
     swap: Replacement,
-    row: DueRow,
+    to: usize,
+    size: usize,
+    next: usize,
+    scratch: usize,
 ) -> Option<()>
-    requires { BoundParts arities.now room.old parent.from parent.rest parent.sides swap.x swap.by swap.m row.to row.size row.next parent.scratch }
-    ensures { BoundMade arities.now room.old parent.from parent.rest parent.sides swap.x swap.by swap.m row.to row.size row.next parent.scratch (of_sized result) room.new }
+    requires { BoundParts arities.now room.old from rest sides swap.x swap.by swap.m to size next scratch }
+    ensures { BoundMade arities.now room.old from rest sides swap.x swap.by swap.m to size next scratch (of_sized result) room.new }
 {
-    let OpenSplit {
-        from,
-        rest,
-        sides,
-        scratch,
-    } = parent;
-    let DueRow { to, size, .. } = row;
     let stride = size + HEADER;
     let us = scratch + stride;
     let picks = us + stride;
@@ -45,23 +43,30 @@ pub fn bound(
         to + HEADER,
         size,
     )?;
-    finish(arities, room, rest, swap, row, w)
+    finish(arities, room, rest, swap, to, w, size, next)
 }
 
 // The same, or a dead end where x occurs in the words that it would be bound to.
 pub fn bind_tail(
     arities: &[u8],
     room: &mut [u16],
-    parent: OpenSplit,
+    from: usize,
+    rest: Rest,
+    sides: Sides,
     swap: Replacement,
-    row: DueRow,
+    to: usize,
+    size: usize,
+    next: usize,
+    scratch: usize,
 ) -> Made
-    requires { BoundParts arities.now room.old parent.from parent.rest parent.sides swap.x swap.by swap.m row.to row.size row.next parent.scratch }
-    ensures { TailMade arities.now room.old parent.from parent.rest parent.sides swap.x swap.by swap.m row.to row.size row.next parent.scratch result room.new }
+    requires { BoundParts arities.now room.old from rest sides swap.x swap.by swap.m to size next scratch }
+    ensures { TailMade arities.now room.old from rest sides swap.x swap.by swap.m to size next scratch result room.new }
 {
     let end = swap.by + swap.m;
     if is_in(&room[swap.by..end], swap.x) {
         return Made::Dead;
     }
-    Made::from(bound(arities, room, parent, swap, row))
+    Made::from(bound(
+        arities, room, from, rest, sides, swap, to, size, next, scratch,
+    ))
 }

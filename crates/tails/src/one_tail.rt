@@ -1,7 +1,4 @@
 // A child of a split of which one tail is an unknown: it is bound to the other tail with the members that joined it.
-//
-// Kept: `left` and `right` are one call of `lay_value` each, with seven numbers of one side or of the other; a single function would choose
-// the seven by the side first, and then call it, which is no plainer.
 ghost use Rattle.std.specs.Prelude.{◌≡◌, ◌+◌, ◌≤◌, length, get_or};
 ghost use Rattle.room.specs.Room.{put};
 ghost use Rattle.tails.specs.Value.{value_piece, ValueParts};
@@ -10,10 +7,10 @@ ghost use Rattle.tails.specs.Due.{ChildParts, ChildMade};
 
 use crate::bound_tail::bind_tail;
 use crate::joined_members::tail_members;
-use choices::sides::OpenSplit;
+use choices::sides::Sides;
 use replace::Replacement;
 use room::layout::HEADER;
-use rows::parts::{DueRow, Made};
+use rows::parts::{Made, Rest};
 
 // Lays out the members whose pick is none of the others, each with its mark, and then the l words of a tail; answers how many words they are.
 fn lay_value(
@@ -38,17 +35,21 @@ fn lay_value(
 }
 
 // Only s is an unknown: it is bound to {U|r}.
-pub fn left(arities: &[u8], room: &mut [u16], parent: OpenSplit, row: DueRow) -> Made
-    requires { ChildParts arities.now room.old parent.from parent.rest parent.sides Left row.to row.size row.next parent.scratch }
-    ensures { ChildMade arities.now room.old parent.from parent.rest parent.sides Left row.to row.size row.next parent.scratch result room.new }
+pub fn left(
+    arities: &[u8],
+    room: &mut [u16],
+    from: usize,
+    rest: Rest,
+    sides: Sides,
+    to: usize,
+    size: usize,
+    next: usize,
+    scratch: usize,
+) -> Made
+    requires { ChildParts arities.now room.old from rest sides Left to size next scratch }
+    ensures { ChildMade arities.now room.old from rest sides Left to size next scratch result room.new }
 {
-    let OpenSplit {
-        from,
-        sides,
-        scratch,
-        ..
-    } = parent;
-    let stride = row.size + HEADER;
+    let stride = size + HEADER;
     let us = scratch + stride;
     let picks = us + stride;
     let value = picks + stride;
@@ -65,21 +66,27 @@ pub fn left(arities: &[u8], room: &mut [u16], parent: OpenSplit, row: DueRow) ->
         value,
     );
     let swap = Replacement { x, by: value, m: k };
-    bind_tail(arities, room, parent, swap, row)
+    bind_tail(
+        arities, room, from, rest, sides, swap, to, size, next, scratch,
+    )
 }
 
 // Only r is an unknown: it is bound to {T|s}.
-pub fn right(arities: &[u8], room: &mut [u16], parent: OpenSplit, row: DueRow) -> Made
-    requires { ChildParts arities.now room.old parent.from parent.rest parent.sides Right row.to row.size row.next parent.scratch }
-    ensures { ChildMade arities.now room.old parent.from parent.rest parent.sides Right row.to row.size row.next parent.scratch result room.new }
+pub fn right(
+    arities: &[u8],
+    room: &mut [u16],
+    from: usize,
+    rest: Rest,
+    sides: Sides,
+    to: usize,
+    size: usize,
+    next: usize,
+    scratch: usize,
+) -> Made
+    requires { ChildParts arities.now room.old from rest sides Right to size next scratch }
+    ensures { ChildMade arities.now room.old from rest sides Right to size next scratch result room.new }
 {
-    let OpenSplit {
-        from,
-        sides,
-        scratch,
-        ..
-    } = parent;
-    let stride = row.size + HEADER;
+    let stride = size + HEADER;
     let us = scratch + stride;
     let picks = us + stride;
     let value = picks + stride;
@@ -96,5 +103,7 @@ pub fn right(arities: &[u8], room: &mut [u16], parent: OpenSplit, row: DueRow) -
         value,
     );
     let swap = Replacement { x, by: value, m: k };
-    bind_tail(arities, room, parent, swap, row)
+    bind_tail(
+        arities, room, from, rest, sides, swap, to, size, next, scratch,
+    )
 }
