@@ -27,7 +27,7 @@ use Rattle.rows.specs.declared.parts.Rest.{Rest}
 use Rattle.rows.specs.Sections.{sections_fit}
 use Rattle.rows.specs.Bind.{BindParts, FinishParts}
 use Rattle.rows.specs.Row.{Holds, Rested, header_for}
-use Rattle.replace.specs.declared.Replacement.{Replacement}
+use Rattle.rows.specs.declared.first.Subject.{Subject}
 use Rattle.binding.specs.Child.{Stands}
 use Rattle.rows.specs.Stepping.{unknown_word}
 use Rattle.rows.specs.Terms.MemberWords.{head_word, head_words, head_unknown}
@@ -110,7 +110,7 @@ module _ {arities l : List ℕ} {from to scratch lent : ℕ} {st : State} (H : H
   }
 
 -- a subject found: x's word, and where t's words stand, among the first words of the body
-pub record SubjectAt (l : List ℕ) (s : Replacement) (x : ℕ) (t : Term) (from end : ℕ) : Type 0 where
+pub record SubjectAt (l : List ℕ) (s : Subject) (x : ℕ) (t : Term) (from end : ℕ) : Type 0 where
   pub word : s.x ≡ FIRST_UNKNOWN + x
   pub stands : Stands l s.by s.m t
   pub after : from + HEADER ≤ s.by
@@ -171,7 +171,7 @@ module _ {arities l : List ℕ} {from to scratch lent : ℕ} {st : State} (H : H
 
   -- ---- an unknown and a term
 
-  abbrev found : Replacement
+  abbrev found : Subject
   found = subject_in edition_one (seg l (from + HEADER) (size e.left + size e.right)) (from + HEADER) (size e.left) (size e.left + size e.right)
 
   left_word : unknown_word edition_one (get_or (words edition_one e.left ++ words edition_one e.right) 0 0) ≡ is_unknown e.left

@@ -9,7 +9,6 @@ ghost use Rattle.rows.specs.Made.{of_sized};
 ghost use Rattle.rows.specs.Finished.{Finished, bound_header};
 
 use crate::pile::replace_part;
-use replace::Replacement;
 use room::layout::HEADER;
 use rows::header::{Header, seal};
 use rows::parts::{Part, Rest};
@@ -20,23 +19,27 @@ fn bind_pending(
     arities: &[u8],
     room: &mut [u16],
     rest: Rest,
-    swap: Replacement,
+    x: u16,
+    by: usize,
+    m: usize,
     to: usize,
     capacity: usize,
 ) -> Option<usize>
-    requires { BindParts room.old rest swap.by swap.m to capacity }
-    ensures { Wrote room.old to capacity (bound_pending edition_one arities.now room.old rest swap.x swap.by swap.m) result room.new }
+    requires { BindParts room.old rest by m to capacity }
+    ensures { Wrote room.old to capacity (bound_pending edition_one arities.now room.old rest x by m) result room.new }
 {
     let at = rest.at;
     let n = rest.pending;
-    let k = replace::replace_all(room, at, n, swap, to, capacity)?;
+    let k = replace::replace_all(room, at, n, x, by, m, to, capacity)?;
     let l = replace_part(
         arities,
         room,
         Part::Entries,
         at + n,
         rest.pile,
-        swap,
+        x,
+        by,
+        m,
         to + k,
         capacity - k,
     )?;
@@ -47,40 +50,44 @@ fn bind_pending(
 fn bind_last(
     room: &mut [u16],
     rest: Rest,
-    swap: Replacement,
+    x: u16,
+    by: usize,
+    m: usize,
     to: usize,
     capacity: usize,
 ) -> Option<usize>
-    requires { BindParts room.old rest swap.by swap.m to capacity × FIRST_UNKNOWN ≤ swap.x }
-    ensures { Wrote room.old to capacity (bound_bindings room.old rest swap.x swap.by swap.m) result room.new }
+    requires { BindParts room.old rest by m to capacity × FIRST_UNKNOWN ≤ x }
+    ensures { Wrote room.old to capacity (bound_bindings room.old rest x by m) result room.new }
 {
     let at = rest.at + rest.pending + rest.pile;
     let n = rest.bound;
-    if capacity < n + 1 + swap.m {
+    if capacity < n + 1 + m {
         return None;
     }
     room::copy(room, at, n, to);
-    room[to + n] = unknown_number(swap.x);
-    room::copy(room, swap.by, swap.m, to + n + 1);
-    Some(n + 1 + swap.m)
+    room[to + n] = unknown_number(x);
+    room::copy(room, by, m, to + n + 1);
+    Some(n + 1 + m)
 }
 
 // The last part of a child's row, of whose body the pending equations and the pile are written.
 fn finish_bindings(
     room: &mut [u16],
     rest: Rest,
-    swap: Replacement,
+    x: u16,
+    by: usize,
+    m: usize,
     to: usize,
     pending: usize,
     pile: usize,
     size: usize,
     next: usize,
 ) -> Option<()>
-    requires { FinishParts room.old rest swap.by swap.m to (pending + pile) size swap.x next }
-    ensures { Finished room.old to (pending + pile) size (bound_bindings room.old rest swap.x swap.by swap.m) (header_of (bound_header rest pending pile swap.m next)) (of_sized result) room.new }
+    requires { FinishParts room.old rest by m to (pending + pile) size x next }
+    ensures { Finished room.old to (pending + pile) size (bound_bindings room.old rest x by m) (header_of (bound_header rest pending pile m next)) (of_sized result) room.new }
 {
     let start = pending + pile;
-    let k = bind_last(room, rest, swap, to + HEADER + start, size - start)?;
+    let k = bind_last(room, rest, x, by, m, to + HEADER + start, size - start)?;
     let bindings = rest.bindings + 1;
     let body = start + k;
     seal(
@@ -102,14 +109,16 @@ pub fn finish_pile(
     arities: &[u8],
     room: &mut [u16],
     rest: Rest,
-    swap: Replacement,
+    x: u16,
+    by: usize,
+    m: usize,
     to: usize,
     pending: usize,
     size: usize,
     next: usize,
 ) -> Option<()>
-    requires { FinishParts room.old rest swap.by swap.m to pending size swap.x next }
-    ensures { Finished room.old to pending size (bound_pile edition_one arities.now room.old rest swap.x swap.by swap.m ++ bound_bindings room.old rest swap.x swap.by swap.m) (header_of (bound_header rest pending (length (bound_pile edition_one arities.now room.old rest swap.x swap.by swap.m)) swap.m next)) (of_sized result) room.new }
+    requires { FinishParts room.old rest by m to pending size x next }
+    ensures { Finished room.old to pending size (bound_pile edition_one arities.now room.old rest x by m ++ bound_bindings room.old rest x by m) (header_of (bound_header rest pending (length (bound_pile edition_one arities.now room.old rest x by m)) m next)) (of_sized result) room.new }
 {
     let at = rest.at + rest.pending;
     let k = replace_part(
@@ -118,34 +127,40 @@ pub fn finish_pile(
         Part::Others,
         at,
         rest.pile,
-        swap,
+        x,
+        by,
+        m,
         to + HEADER + pending,
         size - pending,
     )?;
-    finish_bindings(room, rest, swap, to, pending, k, size, next)
+    finish_bindings(room, rest, x, by, m, to, pending, k, size, next)
 }
 
-// A child's row, of whose body the new equations are written, so many words: the rest of the parent's row with x bound to the words of the swap.
+// A child's row, of whose body the new equations are written, so many words: the rest of the parent's row with x bound to the m words at `by`.
 pub fn finish(
     arities: &[u8],
     room: &mut [u16],
     rest: Rest,
-    swap: Replacement,
+    x: u16,
+    by: usize,
+    m: usize,
     to: usize,
     written: usize,
     size: usize,
     next: usize,
 ) -> Option<()>
-    requires { FinishParts room.old rest swap.by swap.m to written size swap.x next }
-    ensures { Finished room.old to written size (bound_body edition_one arities.now room.old rest swap.x swap.by swap.m) (header_of (bound_header rest (written + length (bound_pending edition_one arities.now room.old rest swap.x swap.by swap.m)) (length (bound_pile edition_one arities.now room.old rest swap.x swap.by swap.m)) swap.m next)) (of_sized result) room.new }
+    requires { FinishParts room.old rest by m to written size x next }
+    ensures { Finished room.old to written size (bound_body edition_one arities.now room.old rest x by m) (header_of (bound_header rest (written + length (bound_pending edition_one arities.now room.old rest x by m)) (length (bound_pile edition_one arities.now room.old rest x by m)) m next)) (of_sized result) room.new }
 {
     let k = bind_pending(
         arities,
         room,
         rest,
-        swap,
+        x,
+        by,
+        m,
         to + HEADER + written,
         size - written,
     )?;
-    finish_pile(arities, room, rest, swap, to, written + k, size, next)
+    finish_pile(arities, room, rest, x, by, m, to, written + k, size, next)
 }

@@ -7,7 +7,6 @@ ghost use Rattle.terms.specs.Bounds.{edition_one};
 ghost use Rattle.rows.specs.Pile.{wants, selection};
 ghost use Rattle.rows.specs.Wrote.{Wrote};
 
-use replace::Replacement;
 use rows::parts::Part;
 use rows::walk::{end_of_term, is_in};
 
@@ -20,7 +19,7 @@ fn wanted(part: Part, name: u16, x: u16) -> bool
     }
 }
 
-// Writes a part of the entries in the n words at `from` to the place `to`, with the words of the swap for each x of it, in at most `capacity` words: one
+// Writes a part of the entries in the n words at `from` to the place `to`, with the m words at `by` for each word x, in at most `capacity` words: one
 // entry after the other.
 // Kept: a turn of the loop steps over an entry, as long as its term is, so no `for` over places counts it.
 fn replace_entries(
@@ -29,12 +28,14 @@ fn replace_entries(
     part: Part,
     from: usize,
     n: usize,
-    swap: Replacement,
+    x: u16,
+    by: usize,
+    m: usize,
     to: usize,
     capacity: usize,
 ) -> Option<usize>
-    requires { ReplaceParts room.old from n swap.by swap.m to capacity × length room.old < 2 ^ 32 }
-    ensures { Wrote room.old to capacity (replaced swap.x (seg room.old swap.by swap.m) (selection edition_one arities.now part swap.x (seg room.old from n))) result room.new }
+    requires { ReplaceParts room.old from n by m to capacity × length room.old < 2 ^ 32 }
+    ensures { Wrote room.old to capacity (replaced x (seg room.old by m) (selection edition_one arities.now part x (seg room.old from n))) result room.new }
 {
     let end = from + n;
     let mut read = 0;
@@ -43,8 +44,8 @@ fn replace_entries(
         let at = from + read;
         let after = at + 1;
         let size = end_of_term(arities, &room[after..end]) + 1;
-        if wanted(part, room[at], swap.x) {
-            let k = replace::replace(room, at, size, swap, to + written, capacity - written)?;
+        if wanted(part, room[at], x) {
+            let k = replace::replace(room, at, size, x, by, m, to + written, capacity - written)?;
             written += k;
         }
         read += size;
@@ -60,18 +61,20 @@ pub fn replace_part(
     part: Part,
     from: usize,
     n: usize,
-    swap: Replacement,
+    x: u16,
+    by: usize,
+    m: usize,
     to: usize,
     capacity: usize,
 ) -> Option<usize>
-    requires { ReplaceParts room.old from n swap.by swap.m to capacity × length room.old < 2 ^ 32 }
-    ensures { Wrote room.old to capacity (replaced swap.x (seg room.old swap.by swap.m) (selection edition_one arities.now part swap.x (seg room.old from n))) result room.new }
+    requires { ReplaceParts room.old from n by m to capacity × length room.old < 2 ^ 32 }
+    ensures { Wrote room.old to capacity (replaced x (seg room.old by m) (selection edition_one arities.now part x (seg room.old from n))) result room.new }
 {
     if n == 0 {
         return Some(0);
     }
     let end = from + n;
-    if !is_in(&room[from..end], swap.x) {
+    if !is_in(&room[from..end], x) {
         match part {
             Part::Entries => {
                 return Some(0);
@@ -85,5 +88,5 @@ pub fn replace_part(
             }
         }
     }
-    replace_entries(arities, room, part, from, n, swap, to, capacity)
+    replace_entries(arities, room, part, from, n, x, by, m, to, capacity)
 }

@@ -5,23 +5,23 @@ ghost use Rattle.room.specs.Replaced.{replaced};
 ghost use Rattle.rows.specs.Wrote.{Wrote};
 ghost use Rattle.choices.specs.Gathered.{member_piece, meeting_piece, equations_piece, SideParts, MeetParts};
 
-use replace::Replacement;
-
-// The member whose place is noted at `at`, with the words of the swap for each x of it.
+// The member whose place is noted at `at`, with the m words at `by` for each word x.
 fn side(
     room: &mut [u16],
     body: usize,
     at: usize,
-    swap: Replacement,
+    x: u16,
+    by: usize,
+    m: usize,
     to: usize,
     capacity: usize,
 ) -> Option<usize>
-    requires { SideParts room.old body at swap.by swap.m to capacity }
-    ensures { Wrote room.old to capacity (replaced swap.x (seg room.old swap.by swap.m) (member_piece room.old body at)) result room.new }
+    requires { SideParts room.old body at by m to capacity }
+    ensures { Wrote room.old to capacity (replaced x (seg room.old by m) (member_piece room.old body at)) result room.new }
 {
     let p = usize::from(room[at]) + 1;
     let q = usize::from(room[at + 1]);
-    replace::replace(room, body + p, q - p, swap, to, capacity)
+    replace::replace(room, body + p, q - p, x, by, m, to, capacity)
 }
 
 // Two members, one after the other.
@@ -30,15 +30,17 @@ fn equation(
     body: usize,
     t: usize,
     u: usize,
-    swap: Replacement,
+    x: u16,
+    by: usize,
+    m: usize,
     to: usize,
     capacity: usize,
 ) -> Option<usize>
-    requires { SideParts room.old body t swap.by swap.m to capacity × SideParts room.old body u swap.by swap.m to capacity }
-    ensures { Wrote room.old to capacity (replaced swap.x (seg room.old swap.by swap.m) (member_piece room.old body t ++ member_piece room.old body u)) result room.new }
+    requires { SideParts room.old body t by m to capacity × SideParts room.old body u by m to capacity }
+    ensures { Wrote room.old to capacity (replaced x (seg room.old by m) (member_piece room.old body t ++ member_piece room.old body u)) result room.new }
 {
-    let k = side(room, body, t, swap, to, capacity)?;
-    let j = side(room, body, u, swap, to + k, capacity - k)?;
+    let k = side(room, body, t, x, by, m, to, capacity)?;
+    let j = side(room, body, u, x, by, m, to + k, capacity - k)?;
     Some(k + j)
 }
 
@@ -49,17 +51,19 @@ fn pair(
     turned: bool,
     own: usize,
     other: usize,
-    swap: Replacement,
+    x: u16,
+    by: usize,
+    m: usize,
     to: usize,
     capacity: usize,
 ) -> Option<usize>
-    requires { SideParts room.old body own swap.by swap.m to capacity × SideParts room.old body other swap.by swap.m to capacity }
-    ensures { Wrote room.old to capacity (replaced swap.x (seg room.old swap.by swap.m) (cond turned (member_piece room.old body other ++ member_piece room.old body own) (member_piece room.old body own ++ member_piece room.old body other))) result room.new }
+    requires { SideParts room.old body own by m to capacity × SideParts room.old body other by m to capacity }
+    ensures { Wrote room.old to capacity (replaced x (seg room.old by m) (cond turned (member_piece room.old body other ++ member_piece room.old body own) (member_piece room.old body own ++ member_piece room.old body other))) result room.new }
 {
     if turned {
-        return equation(room, body, other, own, swap, to, capacity);
+        return equation(room, body, other, own, x, by, m, to, capacity);
     }
-    equation(room, body, own, other, swap, to, capacity)
+    equation(room, body, own, other, x, by, m, to, capacity)
 }
 
 // The equations of one side's n picks: the members noted at `owns` with those of the `count` noted at `others` that they picked.
@@ -72,12 +76,14 @@ fn equations_of(
     others: usize,
     count: usize,
     picks: usize,
-    swap: Replacement,
+    x: u16,
+    by: usize,
+    m: usize,
     to: usize,
     capacity: usize,
 ) -> Option<usize>
-    requires { MeetParts room.old body owns n others count picks swap.by swap.m to capacity }
-    ensures { Wrote room.old to capacity (replaced swap.x (seg room.old swap.by swap.m) (meeting_piece room.old body owns picks turned n others count)) result room.new }
+    requires { MeetParts room.old body owns n others count picks by m to capacity }
+    ensures { Wrote room.old to capacity (replaced x (seg room.old by m) (meeting_piece room.old body owns picks turned n others count)) result room.new }
 {
     let mut written = 0;
     for i in 0..n {
@@ -89,7 +95,9 @@ fn equations_of(
                 turned,
                 owns + i,
                 others + pick,
-                swap,
+                x,
+                by,
+                m,
                 to + written,
                 capacity - written,
             )?;
@@ -108,14 +116,18 @@ pub fn equations(
     us: usize,
     k: usize,
     picks: usize,
-    swap: Replacement,
+    x: u16,
+    by: usize,
+    m: usize,
     to: usize,
     capacity: usize,
 ) -> Option<usize>
-    requires { MeetParts room.old body ts n us k picks swap.by swap.m to capacity × MeetParts room.old body us k ts n (picks + n) swap.by swap.m to capacity }
-    ensures { Wrote room.old to capacity (replaced swap.x (seg room.old swap.by swap.m) (equations_piece room.old body ts n us k picks)) result room.new }
+    requires { MeetParts room.old body ts n us k picks by m to capacity × MeetParts room.old body us k ts n (picks + n) by m to capacity }
+    ensures { Wrote room.old to capacity (replaced x (seg room.old by m) (equations_piece room.old body ts n us k picks)) result room.new }
 {
-    let w = equations_of(room, body, false, ts, n, us, k, picks, swap, to, capacity)?;
+    let w = equations_of(
+        room, body, false, ts, n, us, k, picks, x, by, m, to, capacity,
+    )?;
     let v = equations_of(
         room,
         body,
@@ -125,7 +137,9 @@ pub fn equations(
         ts,
         n,
         picks + n,
-        swap,
+        x,
+        by,
+        m,
         to + w,
         capacity - w,
     )?;

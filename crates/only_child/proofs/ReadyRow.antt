@@ -7,7 +7,7 @@ use native.Mathlib.Omega.{arith}
 use lib.ListN.{take, drop}
 use Rattle.room.specs.Room.{seg}
 use Rattle.room.specs.Layout.{HEADER, stride, aside_row}
-use Rattle.terms.specs.Formed.{Equation}
+use Rattle.terms.specs.Formed.{Equation, row}
 use Rattle.terms.specs.Laws.Flat.{size_positive}
 use Rattle.search.specs.State.{State, pend, size_equations, state_size}
 use Rattle.search.specs.Classify.{classify}

@@ -17,7 +17,8 @@ use Rattle.search.specs.declared.steps.Step.TheVariants.{Drop, Bind, Postpone, D
 use Rattle.binding.specs.At.{first-size}
 use Rattle.rows.specs.declared.parts.Made.{Made}
 use Rattle.rows.specs.declared.parts.Rest.{Rest}
-use Rattle.rows.specs.First.{subject_in, Replacement}
+use Rattle.rows.specs.declared.first.Subject.{Subject}
+use Rattle.rows.specs.First.{subject_in}
 use Rattle.plain_steps.specs.declared.plain.Forced.{Forced}
 use Rattle.plain_steps.specs.OnlyStep.{StepFor, StepAt, Taken}
 use Rattle.plain_steps.specs.Plain.{of_plain, no_split}
@@ -58,7 +59,7 @@ module _ {arities l : List ℕ} {at : ℕ} {rest : Rest} {first : Forced} {numbe
   pub first-within : at + HEADER + first.end ≤ scratch
   first-within = omega (arith, S.end_is, first-size st S.cut, pending_within S.ready)
 
-  step_for : {s : Replacement} → 0 < most → s ≡ subject_in edition_one (take (at + HEADER + first.end - (at + HEADER)) (drop (at + HEADER) l)) (at + HEADER) first.right first.end
+  step_for : {s : Subject} → 0 < most → s ≡ subject_in edition_one (take (at + HEADER + first.end - (at + HEADER)) (drop (at + HEADER) l)) (at + HEADER) first.right first.end
       → StepFor arities l at (at + stride lent) (aside_row lent scratch) lent first.right first.end next rest s (of_plain first.step) st e es
   step_for h q = record {
     held = held S.ready h;
@@ -71,11 +72,11 @@ module _ {arities l : List ℕ} {at : ℕ} {rest : Rest} {first : Forced} {numbe
     next_is = S.next_is;
   }
 
-  pub step_asked : {s : Replacement} → 0 < most → s ≡ subject_in edition_one (take (at + HEADER + first.end - (at + HEADER)) (drop (at + HEADER) l)) (at + HEADER) first.right first.end
+  pub step_asked : {s : Subject} → 0 < most → s ≡ subject_in edition_one (take (at + HEADER + first.end - (at + HEADER)) (drop (at + HEADER) l)) (at + HEADER) first.right first.end
       → StepAt arities l at (at + stride lent) (aside_row lent scratch) lent first.right first.end next rest s (of_plain first.step)
   step_asked h q = record { state = st; first = e; others = es; here = step_for h q }
 
-  pub step_told : {s : Replacement} {a : Made} {x : Next} {r : List ℕ} → number ≡ 0 → 0 < most → s ≡ subject_in edition_one (take (at + HEADER + first.end - (at + HEADER)) (drop (at + HEADER) l)) (at + HEADER) first.right first.end
+  pub step_told : {s : Subject} {a : Made} {x : Next} {r : List ℕ} → number ≡ 0 → 0 < most → s ≡ subject_in edition_one (take (at + HEADER + first.end - (at + HEADER)) (drop (at + HEADER) l)) (at + HEADER) first.right first.end
       → Taken arities l at (at + stride lent) (aside_row lent scratch) lent first.right first.end next rest s (of_plain first.step) a r → x ≡ next_made a → Kept l at number lent scratch most st x r
   step_told z h q T f =
       record {

@@ -11,14 +11,14 @@ use Rattle.room.specs.Layout.{HEADER}
 use Rattle.terms.specs.Bounds.{edition_one, FIRST_UNKNOWN}
 use Rattle.terms.specs.Laws.Walk.{span-le}
 use Rattle.rows.specs.declared.parts.Rest.{Rest}
-use Rattle.rows.specs.First.{Replacement}
+use Rattle.rows.specs.declared.first.Subject.{Subject}
 use Rattle.rows.specs.Bind.{FinishParts}
 use Rattle.rows.specs.Finished.{finish_long}
 use Rattle.rows.specs.Terms.Ended.{term_end}
 use Rattle.plain_steps.specs.StepParts.{postponed, PostponeParts, PairParts, DecomposeParts, paired, length-paired, decomposed}
 use Rattle.binding.proofs.RestCopied.{put-after}
 
-module _ {r₀ : List ℕ} {rest : Rest} {s : Replacement} {entry to size next : ℕ} (P : PostponeParts r₀ rest s entry to size next) where
+module _ {r₀ : List ℕ} {rest : Rest} {s : Subject} {entry to size next : ℕ} (P : PostponeParts r₀ rest s entry to size next) where
   pub entry_copy : CopyParts (set r₀ entry s.x) s.by s.m (entry + 1)
   entry_copy = record {
     from_within = rw length-set P.by_within;

@@ -27,19 +27,20 @@ use Rattle.search.specs.declared.steps.Step.TheVariants.{Drop, Bind, Postpone, D
 use Rattle.rows.specs.declared.parts.Rest.{Rest}
 use Rattle.rows.specs.declared.parts.Made.{Made}
 use Rattle.rows.specs.declared.parts.Made.TheVariants as made
+use Rattle.rows.specs.declared.first.Subject.{Subject}
 use Rattle.rows.specs.Header.{header_of}
 use Rattle.rows.specs.Bind.{FinishParts, bound_pending, bound_pile, bound_body}
 use Rattle.binding.specs.Keep.{kept_piece, kept_header}
 use Rattle.rows.specs.Finished.{Finished, bound_header}
 use Rattle.rows.specs.Row.{Makes, Beside, header_for, becomes}
-use Rattle.rows.specs.First.{rest_after, subject_in, Replacement}
+use Rattle.rows.specs.First.{rest_after, subject_in}
 use Rattle.plain_steps.specs.StepParts.{postponed, PostponeParts, DecomposeParts, paired, decomposed}
 use Rattle.binding.specs.At.{Held, SubjectAt, first_formed, subject-found, left_stands}
 use Rattle.plain_steps.specs.Singles.{drop-parts, drop-made, bind_first-parts, bind_made, postpone_first-parts, postpone_made}
 use Rattle.plain_steps.specs.Decomposed.{decompose_first-parts, decompose_made}
 
 -- the state that the row holds has e for its first equation, and the numbers are those of e
-pub record StepFor (arities l : List ℕ) (from to scratch lent right end next : ℕ) (rest : Rest) (s : Replacement) (step : Step) (st : State) (e : Equation) (es : List Equation) : Type 0 where
+pub record StepFor (arities l : List ℕ) (from to scratch lent right end next : ℕ) (rest : Rest) (s : Subject) (step : Step) (st : State) (e : Equation) (es : List Equation) : Type 0 where
   pub held : Held arities l from to scratch lent st
   pub cut : st.pending ≡ e ∷ es
   pub right_is : right ≡ size e.left
@@ -50,14 +51,14 @@ pub record StepFor (arities l : List ℕ) (from to scratch lent right end next :
   pub next_is : next ≡ st.next
 
 -- there is such a state
-pub record StepAt (arities l : List ℕ) (from to scratch lent right end next : ℕ) (rest : Rest) (s : Replacement) (step : Step) : Type 0 where
+pub record StepAt (arities l : List ℕ) (from to scratch lent right end next : ℕ) (rest : Rest) (s : Subject) (step : Step) : Type 0 where
   pub state : State
   pub first : Equation
   pub others : List Equation
   pub here : StepFor arities l from to scratch lent right end next rest s step state first others
 
 -- what the function that takes the step says, of each such state and its only child
-pub record Taken (arities l : List ℕ) (from to scratch lent right end next : ℕ) (rest : Rest) (s : Replacement) (step : Step) (a : Made) (r : List ℕ) : Type 0 where
+pub record Taken (arities l : List ℕ) (from to scratch lent right end next : ℕ) (rest : Rest) (s : Subject) (step : Step) (a : Made) (r : List ℕ) : Type 0 where
   pub taken : (st : State) (e : Equation) (es : List Equation) (node : Node) → StepFor arities l from to scratch lent right end next rest s step st e es
       → children.take step e.left e.right (pend es st) ≡ node ∷ [] → Makes edition_one l to lent node a r
   pub beside : (st : State) (e : Equation) (es : List Equation) → StepFor arities l from to scratch lent right end next rest s step st e es → Beside l r to lent scratch
@@ -99,7 +100,7 @@ only-decomposed : {l r : Term} (st : State) {node : Node} (v : Functors l r) →
 unfolding children.take arguments
 only-decomposed st v o = only (rw (v.left, v.right) at o)
 
-module _ {arities l : List ℕ} {from to scratch lent right end next : ℕ} {rest : Rest} {s : Replacement} {step : Step} {st : State} {e : Equation} {es : List Equation}
+module _ {arities l : List ℕ} {from to scratch lent right end next : ℕ} {rest : Rest} {s : Subject} {step : Step} {st : State} {e : Equation} {es : List Equation}
     (S : StepFor arities l from to scratch lent right end next rest s step st e es) where
   abbrev H : Held arities l from to scratch lent st
   H = S.held

@@ -16,6 +16,7 @@ use Rattle.search.specs.Children.{bound_state}
 use Rattle.search.specs.StateWords.{pending_words, pile_words}
 use Rattle.rows.specs.declared.parts.Rest.{Rest}
 use Rattle.rows.specs.declared.parts.Made.{Made}
+use Rattle.rows.specs.declared.first.Subject.{Subject}
 use Rattle.rows.specs.Sections.{sections_fit}
 use Rattle.rows.specs.Header.{header_of}
 use Rattle.rows.specs.Bind.{FinishParts, bound_pending, bound_pile, bound_body}
@@ -23,7 +24,7 @@ use Rattle.binding.specs.Keep.{kept_piece, kept_header}
 use Rattle.rows.specs.Finished.{Finished, bound_header, finish_long}
 use Rattle.rows.specs.Row.{Rested, Makes, Beside, beside_aside, finished_beside, header_for}
 use Rattle.binding.specs.Child.{Piled, ahead, extended, finish_makes, keep_makes}
-use Rattle.rows.specs.First.{rest_after, Replacement}
+use Rattle.rows.specs.First.{rest_after}
 use Rattle.plain_steps.specs.StepParts.{postponed, PostponeParts}
 use Rattle.binding.specs.At.{sound_worded, Held, rested, finish-parts, SubjectAt, sides-within, first-size, rest-room}
 
@@ -55,7 +56,7 @@ makes_after {l} i vs h M = record {
 }
 
 -- the entry is laid out aside
-pub postpone_beside : {l : List ℕ} (s : Replacement) {to entry written lent : ℕ} {piece header : List ℕ} {a : Made} {r : List ℕ} → to + stride lent ≤ entry
+pub postpone_beside : {l : List ℕ} (s : Subject) {to entry written lent : ℕ} {piece header : List ℕ} {a : Made} {r : List ℕ} → to + stride lent ≤ entry
     → Finished (postponed l s entry) to written lent piece header a r → Beside l r to lent entry
 unfolding postponed
 postpone_beside {l} s h F = beside_aside (s.x ∷ seg l s.by s.m) h (finished_beside F)
@@ -101,7 +102,7 @@ module _ {arities r₀ : List ℕ} {from to scratch lent : ℕ} {st : State} (H 
 
   -- ---- bind
 
-  module _ {s : Replacement} {x : ℕ} {t : Term} (A : SubjectAt r₀ s x t from end) (small : x < FIRST_UNKNOWN) where
+  module _ {s : Subject} {x : ℕ} {t : Term} (A : SubjectAt r₀ s x t from end) (small : x < FIRST_UNKNOWN) where
     pub subject-within : Within r₀ s.by s.m
     subject-within = omega (arith, A.before, sides-within H cut, H.rows.next_row, H.rows.scratch_rows)
 

@@ -7,14 +7,14 @@ use Rattle.room.specs.Parts.{Apart}
 use Rattle.room.specs.Layout.{HEADER}
 use Rattle.terms.specs.Bounds.{Bounds, FIRST_UNKNOWN}
 use Rattle.rows.specs.declared.parts.Rest.{Rest}
-use Rattle.rows.specs.First.{Replacement}
+use Rattle.rows.specs.declared.first.Subject.{Subject}
 use Rattle.rows.specs.Bind.{FinishParts}
 use Rattle.rows.specs.Terms.Ended.{term_end}
 
-unfoldable pub postponed : List ℕ → Replacement → ℕ → List ℕ
+unfoldable pub postponed : List ℕ → Subject → ℕ → List ℕ
 postponed r s entry = put r entry (s.x ∷ seg r s.by s.m)
 
-pub record PostponeParts (l : List ℕ) (rest : Rest) (s : Replacement) (entry to size next : ℕ) : Type 0 where
+pub record PostponeParts (l : List ℕ) (rest : Rest) (s : Subject) (entry to size next : ℕ) : Type 0 where
   pub parts : FinishParts l rest entry (s.m + 1) to 0 size FIRST_UNKNOWN next
   pub by_within : Within l s.by s.m
   pub by_apart : Apart s.by s.m entry (s.m + 1)

@@ -7,7 +7,7 @@ use crate::plain::Plain;
 use binding::bind::finish;
 use binding::keep::keep;
 use room::layout::HEADER;
-use rows::first::Replacement;
+use rows::first::Subject;
 use rows::parts::{Made, Rest};
 use terms::kind::terms_after;
 
@@ -24,7 +24,7 @@ pub fn take_step(
     end: usize,
     next: usize,
     rest: Rest,
-    subject: Replacement,
+    subject: Subject,
     step: Plain,
 ) -> Made
     requires { StepAt arities.now room.old from to scratch size right end next rest subject (of_plain step) }
@@ -32,7 +32,11 @@ pub fn take_step(
 {
     match step {
         Plain::Drop => Made::from(keep(room, rest, from, 0, to, 0, size, next)),
-        Plain::Bind(_) => Made::from(finish(arities, room, rest, subject, to, 0, size, next)),
+        Plain::Bind(_) => {
+            let by = subject.by;
+            let m = subject.m;
+            Made::from(finish(arities, room, rest, subject.x, by, m, to, 0, size, next))
+        }
         Plain::Postpone(_) => Made::from(postpone(room, rest, subject, scratch, to, size, next)),
         Plain::Decompose => {
             let body = from + HEADER;

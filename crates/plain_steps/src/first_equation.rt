@@ -11,7 +11,7 @@ ghost use Rattle.plain_steps.specs.StepParts.{postponed, PostponeParts, PairPart
 
 use binding::keep::keep;
 use room::layout::HEADER;
-use rows::first::Replacement;
+use rows::first::Subject;
 use rows::parts::Rest;
 use rows::walk::end_of_term;
 
@@ -19,7 +19,7 @@ use rows::walk::end_of_term;
 pub fn postpone(
     room: &mut [u16],
     rest: Rest,
-    subject: Replacement,
+    subject: Subject,
     entry: usize,
     to: usize,
     size: usize,

@@ -7,7 +7,6 @@ ghost use Rattle.plain_steps.specs.Join.{gathered};
 ghost use Rattle.plain_steps.specs.JoinLaid.{JoinParts, Joined};
 
 use binding::bind::finish_pile;
-use rows::first::Replacement;
 use rows::parts::{Made, Rest};
 use rows::walk::{end_of_term, is_in, place_of_kernel};
 use terms::bounds::PATH_UNKNOWNS;
@@ -61,10 +60,5 @@ pub fn join(
         return Made::Names;
     }
     room[last] = unknown_word(next);
-    let subject = Replacement {
-        x,
-        by: value,
-        m: m + 1,
-    };
-    Made::from(finish_pile(arities, room, rest, subject, to, 0, size, next + 1))
+    Made::from(finish_pile(arities, room, rest, x, value, m + 1, to, 0, size, next + 1))
 }

@@ -12,33 +12,27 @@ ghost use Rattle.replace.specs.Fitting.{fitting, told};
 use eights::copy_before;
 use room::copy;
 
-// A word x, and the m words at `by` that are written for it.
-#[derive(Clone, Copy)]
-pub struct Replacement {
-    pub x: u16,
-    pub by: usize,
-    pub m: usize,
-}
-
 // `replace` of one word.
 fn replace_word(
     room: &mut [u16],
     from: usize,
-    swap: Replacement,
+    x: u16,
+    by: usize,
+    m: usize,
     to: usize,
     capacity: usize,
 ) -> Option<usize>
-    requires { ReplaceParts room.old from 1 swap.by swap.m to capacity }
-    ensures value { result ≡ told capacity (replaced swap.x (seg room.old swap.by swap.m) (seg room.old from 1)) }
-    ensures room_after { room.new ≡ put room.old to (fitting swap.x (seg room.old swap.by swap.m) capacity (seg room.old from 1)) }
+    requires { ReplaceParts room.old from 1 by m to capacity }
+    ensures value { result ≡ told capacity (replaced x (seg room.old by m) (seg room.old from 1)) }
+    ensures room_after { room.new ≡ put room.old to (fitting x (seg room.old by m) capacity (seg room.old from 1)) }
 {
     let w = room[from];
-    if w == swap.x {
-        if capacity < swap.m {
+    if w == x {
+        if capacity < m {
             return None;
         }
-        copy(room, swap.by, swap.m, to);
-        return Some(swap.m);
+        copy(room, by, m, to);
+        return Some(m);
     }
     if capacity < 1 {
         return None;
@@ -56,13 +50,15 @@ pub fn replace_all(
     room: &mut [u16],
     from: usize,
     n: usize,
-    swap: Replacement,
+    x: u16,
+    by: usize,
+    m: usize,
     to: usize,
     capacity: usize,
 ) -> Option<usize>
-    requires { ReplaceParts room.old from n swap.by swap.m to capacity }
-    ensures value { result ≡ told capacity (replaced swap.x (seg room.old swap.by swap.m) (seg room.old from n)) }
-    ensures room_after { room.new ≡ put room.old to (fitting swap.x (seg room.old swap.by swap.m) capacity (seg room.old from n)) }
+    requires { ReplaceParts room.old from n by m to capacity }
+    ensures value { result ≡ told capacity (replaced x (seg room.old by m) (seg room.old from n)) }
+    ensures room_after { room.new ≡ put room.old to (fitting x (seg room.old by m) capacity (seg room.old from n)) }
 {
     let mut read = 0;
     let mut written = 0;
@@ -71,7 +67,7 @@ pub fn replace_all(
             room,
             from + read,
             (n - read).min(capacity - written),
-            swap.x,
+            x,
             to + written,
         );
         read += run;
@@ -79,35 +75,37 @@ pub fn replace_all(
         if n <= read {
             return Some(written);
         }
-        if room[from + read] != swap.x {
+        if room[from + read] != x {
             return None;
         }
-        if capacity - written < swap.m {
+        if capacity - written < m {
             return None;
         }
-        copy(room, swap.by, swap.m, to + written);
+        copy(room, by, m, to + written);
         read += 1;
-        written += swap.m;
+        written += m;
     }
 }
 
-// Copies the n words at `from` to the place `to`, with the words of the swap for each x of it, in at most `capacity` words.
+// Copies the n words at `from` to the place `to`, with the m words at `by` for each word x, in at most `capacity` words.
 // Answers how many words they are. Where the capacity does not suffice, what comes before the first word that does not fit is
 // written, and the answer is None. Many terms are one word, which needs no loop.
 pub fn replace(
     room: &mut [u16],
     from: usize,
     n: usize,
-    swap: Replacement,
+    x: u16,
+    by: usize,
+    m: usize,
     to: usize,
     capacity: usize,
 ) -> Option<usize>
-    requires { ReplaceParts room.old from n swap.by swap.m to capacity }
-    ensures value { result ≡ told capacity (replaced swap.x (seg room.old swap.by swap.m) (seg room.old from n)) }
-    ensures room_after { room.new ≡ put room.old to (fitting swap.x (seg room.old swap.by swap.m) capacity (seg room.old from n)) }
+    requires { ReplaceParts room.old from n by m to capacity }
+    ensures value { result ≡ told capacity (replaced x (seg room.old by m) (seg room.old from n)) }
+    ensures room_after { room.new ≡ put room.old to (fitting x (seg room.old by m) capacity (seg room.old from n)) }
 {
     if n == 1 {
-        return replace_word(room, from, swap, to, capacity);
+        return replace_word(room, from, x, by, m, to, capacity);
     }
-    replace_all(room, from, n, swap, to, capacity)
+    replace_all(room, from, n, x, by, m, to, capacity)
 }

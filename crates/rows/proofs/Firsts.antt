@@ -11,7 +11,7 @@ use Rattle.terms.specs.Kind.{within}
 use Rattle.terms.specs.Laws.Walk.{span-le}
 use Rattle.search.specs.declared.steps.Step.{Step}
 use Rattle.rows.specs.declared.first.First.{First}
-use Rattle.replace.specs.declared.Replacement.{Replacement}
+use Rattle.rows.specs.declared.first.Subject.{Subject}
 use Rattle.rows.specs.Terms.Ended.{term_end}
 use Rattle.rows.specs.Stepping.{unknown_word, step_of}
 use Rattle.rows.specs.First.{first_in, subject_by, subject_in}
@@ -43,10 +43,10 @@ module _ (arities ws : List ℕ) {right n : ℕ} (e : right ≡ term_end edition
       rw (rw (others ws right) at g, f', e)
 
 module _ (ws : List ℕ) (at right end : ℕ) where
-  pub subject-left : {l : ℕ} → l ≡ get_or ws 0 0 → within FIRST_UNKNOWN UNKNOWN_WORDS l ≡ true → ◌≡◌ {A = Replacement} (record { x = l; by = at + right; m = end - right }) (subject_in edition_one ws at right end)
+  pub subject-left : {l : ℕ} → l ≡ get_or ws 0 0 → within FIRST_UNKNOWN UNKNOWN_WORDS l ≡ true → ◌≡◌ {A = Subject} (record { x = l; by = at + right; m = end - right }) (subject_in edition_one ws at right end)
   unfolding subject_in subject_by unknown_word edition_one
   subject-left e p = let q = rw e at p in rw (e, q)
 
-  pub subject-right : {l x : ℕ} → l ≡ get_or ws 0 0 → within FIRST_UNKNOWN UNKNOWN_WORDS l ≡ false → x ≡ get_or ws right 0 → ◌≡◌ {A = Replacement} (record { x = x; by = at; m = right }) (subject_in edition_one ws at right end)
+  pub subject-right : {l x : ℕ} → l ≡ get_or ws 0 0 → within FIRST_UNKNOWN UNKNOWN_WORDS l ≡ false → x ≡ get_or ws right 0 → ◌≡◌ {A = Subject} (record { x = x; by = at; m = right }) (subject_in edition_one ws at right end)
   unfolding subject_in subject_by unknown_word edition_one
   subject-right e p f = let q = rw e at p in rw (f, q)

@@ -21,7 +21,7 @@ use Rattle.search.specs.Classify.{classify}
 use Rattle.search.specs.StateWords.{pending_words, pile_words, state_words, length_pending, length_pile, length-bindings}
 use Rattle.rows.specs.declared.parts.Rest.{Rest}
 use Rattle.rows.specs.declared.first.First.{First}
-pub use Rattle.replace.specs.declared.Replacement.{Replacement}
+use Rattle.rows.specs.declared.first.Subject.{Subject}
 use Rattle.rows.specs.declared.header.Header.{Header}
 use Rattle.rows.specs.Terms.Ended.{term_end}
 use Rattle.rows.specs.Stepping.{unknown_word, step_of, step_of_words}
@@ -35,11 +35,11 @@ first_in b arities ws = record {
   end = term_end b arities ws + term_end b arities (drop (term_end b arities ws) ws);
 }
 
-unfoldable pub subject_by : Bool → List ℕ → (at right end : ℕ) → Replacement
+unfoldable pub subject_by : Bool → List ℕ → (at right end : ℕ) → Subject
 subject_by true ws at right end = record { x = get_or ws 0 0; by = at + right; m = end - right }
 subject_by false ws at right end = record { x = get_or ws right 0; by = at; m = right }
 
-unfoldable pub subject_in : Bounds → List ℕ → (at right end : ℕ) → Replacement
+unfoldable pub subject_in : Bounds → List ℕ → (at right end : ℕ) → Subject
 subject_in b ws at right end = subject_by (unknown_word b (get_or ws 0 0)) ws at right end
 
 unfoldable pub header_in : List ℕ → Header

@@ -7,7 +7,6 @@ use crate::header::Header;
 use crate::parts::Rest;
 use crate::step::{step_for, word_at};
 use crate::walk::end_of_term;
-pub use replace::Replacement;
 use room::layout::HEADER;
 use search::steps::Step;
 use terms::kind::is_unknown;
@@ -33,8 +32,16 @@ pub fn first_of(arities: &[u8], words: &[u16]) -> First
     First { step, right, end }
 }
 
-// The unknown, and the term that may stand for it, of an equation whose words, from the place `at` of the room on, are these.
-pub fn subject_of(words: &[u16], at: usize, right: usize, end: usize) -> Replacement
+// An unknown's word, and the place and the number of words of a term.
+#[derive(Clone, Copy)]
+pub struct Subject {
+    pub x: u16,
+    pub by: usize,
+    pub m: usize,
+}
+
+// The unknown and the term of an equation whose words, from the place `at` of the room on, are these.
+pub fn subject_of(words: &[u16], at: usize, right: usize, end: usize) -> Subject
     requires { (right ≤ end) × (at + right < 2 ^ 32) }
     ensures { result ≡ subject_in edition_one words.now at right end }
 {
@@ -42,10 +49,10 @@ pub fn subject_of(words: &[u16], at: usize, right: usize, end: usize) -> Replace
     if is_unknown(l) {
         let by = at + right;
         let m = end - right;
-        return Replacement { x: l, by, m };
+        return Subject { x: l, by, m };
     }
     let x = word_at(words, right);
-    Replacement {
+    Subject {
         x,
         by: at,
         m: right,

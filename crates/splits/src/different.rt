@@ -9,7 +9,6 @@ ghost use Rattle.tails.specs.Due.{ChildParts, ChildMade};
 
 use binding::bind::finish;
 use choices::sides::Sides;
-use replace::Replacement;
 use room::layout::HEADER;
 use rows::first::{read_header, rest_of};
 use rows::parts::{Made, Rest};
@@ -60,23 +59,25 @@ fn crosses(u: &[u16], t: &[u16], s: u16, r: u16) -> bool
     false
 }
 
-// The second binding, from the row in which s is bound.
+// The second binding: of x to the m words at `by`, from the row in which s is bound.
 fn bind_again(
     arities: &[u8],
     room: &mut [u16],
     between: usize,
-    swap: Replacement,
+    x: u16,
+    by: usize,
+    m: usize,
     to: usize,
     size: usize,
     next: usize,
 ) -> Option<()>
-    requires { AgainParts arities.now room.old between swap.x swap.by swap.m to size next }
-    ensures { AgainMade arities.now room.old between swap.x swap.by swap.m to size next (of_sized result) room.new }
+    requires { AgainParts arities.now room.old between x by m to size next }
+    ensures { AgainMade arities.now room.old between x by m to size next (of_sized result) room.new }
 {
     let last = between + 5;
     let header = read_header(&room[between..last]);
     let rest = rest_of(between, header, 0);
-    finish(arities, room, rest, swap, to, 0, size, next)
+    finish(arities, room, rest, x, by, m, to, 0, size, next)
 }
 
 // Puts the new unknown's word after U and after T, and writes {T|N} with s replaced by {U|N} to the sixth row of scratch.
@@ -98,12 +99,16 @@ fn share(
     let word = unknown_word(next);
     room[first + joined.u] = word;
     room[second + joined.t] = word;
-    let swap = Replacement {
-        x: s,
-        by: first,
-        m: joined.u + 1,
-    };
-    replace::replace(room, second, joined.t + 1, swap, value, size)
+    replace::replace(
+        room,
+        second,
+        joined.t + 1,
+        s,
+        first,
+        joined.u + 1,
+        value,
+        size,
+    )
 }
 
 // Both bindings: s to the u words of {U|N}, by way of the last row of scratch, then r to the m words at the sixth row.
@@ -130,16 +135,10 @@ fn bind_twice(
     let value = first + stride + stride;
     let between = value + stride;
     let named = next + 1;
-    let lower = Replacement {
-        x: s,
-        by: first,
-        m: u,
-    };
-    let upper = Replacement { x: r, by: value, m };
     bound(
-        arities, room, from, rest, sides, lower, between, size, named, scratch,
+        arities, room, from, rest, sides, s, first, u, between, size, named, scratch,
     )?;
-    bind_again(arities, room, between, upper, to, size, named)
+    bind_again(arities, room, between, r, value, m, to, size, named)
 }
 
 // The new unknown after U and T, then both bindings.

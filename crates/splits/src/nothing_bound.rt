@@ -10,7 +10,6 @@ ghost use Rattle.splits.specs.KeptTails.{tails_piece, TailsParts, EntryParts, En
 use binding::keep::keep;
 use choices::equations::equations;
 use choices::sides::Sides;
-use replace::Replacement;
 use room::layout::HEADER;
 use rows::parts::Rest;
 use tails::joined_members::tail_members;
@@ -59,7 +58,6 @@ pub fn neither(
     let x = room[by];
     let n = sides.n;
     let k = sides.m;
-    let own = Replacement { x, by, m: 1 };
     let w = equations(
         room,
         from + HEADER,
@@ -68,7 +66,9 @@ pub fn neither(
         us,
         k,
         picks,
-        own,
+        x,
+        by,
+        1,
         to + HEADER,
         size,
     )?;
@@ -123,7 +123,6 @@ pub fn same(
     let x = room[by];
     let n = sides.n;
     let k = sides.m;
-    let own = Replacement { x, by, m: 1 };
     let w = equations(
         room,
         from + HEADER,
@@ -132,7 +131,9 @@ pub fn same(
         us,
         k,
         picks,
-        own,
+        x,
+        by,
+        1,
         to + HEADER,
         size,
     )?;

@@ -5,26 +5,27 @@ ghost use Rattle.tails.specs.Bound.{BoundMade, TailMade, BoundParts};
 use binding::bind::finish;
 use choices::equations::equations;
 use choices::sides::Sides;
-use replace::Replacement;
 use room::layout::HEADER;
 use rows::parts::{Made, Rest};
 use rows::walk::is_in;
 
-// The new equations with the words of the swap for each x, then the finish of the binding of x to them.
+// The new equations with x replaced by the m words at `by`, then the finish of the binding of x to them.
 pub fn bound(
     arities: &[u8],
     room: &mut [u16],
     from: usize,
     rest: Rest,
     sides: Sides,
-    swap: Replacement,
+    x: u16,
+    by: usize,
+    m: usize,
     to: usize,
     size: usize,
     next: usize,
     scratch: usize,
 ) -> Option<()>
-    requires { BoundParts arities.now room.old from rest sides swap.x swap.by swap.m to size next scratch }
-    ensures { BoundMade arities.now room.old from rest sides swap.x swap.by swap.m to size next scratch (of_sized result) room.new }
+    requires { BoundParts arities.now room.old from rest sides x by m to size next scratch }
+    ensures { BoundMade arities.now room.old from rest sides x by m to size next scratch (of_sized result) room.new }
 {
     let stride = size + HEADER;
     let us = scratch + stride;
@@ -39,11 +40,13 @@ pub fn bound(
         us,
         k,
         picks,
-        swap,
+        x,
+        by,
+        m,
         to + HEADER,
         size,
     )?;
-    finish(arities, room, rest, swap, to, w, size, next)
+    finish(arities, room, rest, x, by, m, to, w, size, next)
 }
 
 // The same, or a dead end where x occurs in the words that it would be bound to.
@@ -53,20 +56,22 @@ pub fn bind_tail(
     from: usize,
     rest: Rest,
     sides: Sides,
-    swap: Replacement,
+    x: u16,
+    by: usize,
+    m: usize,
     to: usize,
     size: usize,
     next: usize,
     scratch: usize,
 ) -> Made
-    requires { BoundParts arities.now room.old from rest sides swap.x swap.by swap.m to size next scratch }
-    ensures { TailMade arities.now room.old from rest sides swap.x swap.by swap.m to size next scratch result room.new }
+    requires { BoundParts arities.now room.old from rest sides x by m to size next scratch }
+    ensures { TailMade arities.now room.old from rest sides x by m to size next scratch result room.new }
 {
-    let end = swap.by + swap.m;
-    if is_in(&room[swap.by..end], swap.x) {
+    let end = by + m;
+    if is_in(&room[by..end], x) {
         return Made::Dead;
     }
     Made::from(bound(
-        arities, room, from, rest, sides, swap, to, size, next, scratch,
+        arities, room, from, rest, sides, x, by, m, to, size, next, scratch,
     ))
 }

@@ -8,7 +8,6 @@ ghost use Rattle.tails.specs.Due.{ChildParts, ChildMade};
 use crate::bound_tail::bind_tail;
 use crate::joined_members::tail_members;
 use choices::sides::Sides;
-use replace::Replacement;
 use room::layout::HEADER;
 use rows::parts::{Made, Rest};
 
@@ -65,9 +64,8 @@ pub fn left(
         sides.end - sides.r,
         value,
     );
-    let swap = Replacement { x, by: value, m: k };
     bind_tail(
-        arities, room, from, rest, sides, swap, to, size, next, scratch,
+        arities, room, from, rest, sides, x, value, k, to, size, next, scratch,
     )
 }
 
@@ -102,8 +100,7 @@ pub fn right(
         sides.right - sides.s,
         value,
     );
-    let swap = Replacement { x, by: value, m: k };
     bind_tail(
-        arities, room, from, rest, sides, swap, to, size, next, scratch,
+        arities, room, from, rest, sides, x, value, k, to, size, next, scratch,
     )
 }

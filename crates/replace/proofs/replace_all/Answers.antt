@@ -10,7 +10,7 @@ loop-read-init c = none_replaced c.requires
 -- the run is copied
 ran : (c : After-copy_before-run)
     → let a = c.args in
-    Replacing a.room.now a.from a.n a.swap.x a.swap.by a.swap.m a.to a.capacity c.copy_before-run.new.room (c.loop-read.read + c.copy_before-run.result) (c.loop-read.written + c.copy_before-run.result)
+    Replacing a.room.now a.from a.n a.x a.by a.m a.to a.capacity c.copy_before-run.new.room (c.loop-read.read + c.copy_before-run.result) (c.loop-read.written + c.copy_before-run.result)
 ran c =
     run_copied c.loop-read.invariant c.min.ensures c.copy_before-run.ensures.value _ c.copy_before-run.ensures.room_after
 

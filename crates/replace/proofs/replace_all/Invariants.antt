@@ -6,7 +6,7 @@ use Rattle.replace.proofs.replace_all.Given as goal
 
 abbrev pub invariant-loop-read : goal.invariant-loop-read
 invariant-loop-read l =
-    Replacing l.initial.room l.from l.n l.swap.x l.swap.by l.swap.m l.to l.capacity l.room l.read l.written
+    Replacing l.initial.room l.from l.n l.x l.by l.m l.to l.capacity l.room l.read l.written
 
 abbrev pub decreases-loop-read : goal.decreases-loop-read
 decreases-loop-read l = l.n - l.read

@@ -39,8 +39,8 @@ bounds-room-last c =
     let l = long c.args.arities.now c.requires c.gather-m.ensures.value c.gather-m.ensures.room_after in
     omega (arith, c.requires.parts.by_within, c.requires.parts.small)
 
-pub overflow_add-subject : goal.overflow_add-subject
-overflow_add-subject c =
+pub overflow_add-m : goal.overflow_add-m
+overflow_add-m c =
     let m = m_within c.args.arities.now c.requires c.gather-m.ensures.value c.gather-m.ensures.room_after in
     let l = long c.args.arities.now c.requires c.gather-m.ensures.value c.gather-m.ensures.room_after in
     omega (arith, c.requires.parts.by_within, c.requires.parts.small)
