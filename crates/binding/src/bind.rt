@@ -8,10 +8,10 @@ ghost use Rattle.rows.specs.Header.{header_of};
 ghost use Rattle.rows.specs.Made.{of_sized};
 ghost use Rattle.rows.specs.Finished.{Finished, bound_header};
 
-use crate::pile::replace_part;
+use crate::pile::{replace_others, replace_released};
 use room::layout::HEADER;
 use rows::header::{Header, seal};
-use rows::parts::{Part, Rest};
+use rows::parts::Rest;
 use terms::kind::unknown_number;
 
 // The pending equations, then the released entries, which are those of x.
@@ -31,10 +31,9 @@ fn bind_pending(
     let at = rest.at;
     let n = rest.pending;
     let k = replace::replace_all(room, at, n, x, by, m, to, capacity)?;
-    let l = replace_part(
+    let l = replace_released(
         arities,
         room,
-        Part::Entries,
         at + n,
         rest.pile,
         x,
@@ -121,10 +120,9 @@ pub fn finish_pile(
     ensures { Finished room.old to pending size (bound_pile edition_one arities.now room.old rest x by m ++ bound_bindings room.old rest x by m) (header_of (bound_header rest pending (length (bound_pile edition_one arities.now room.old rest x by m)) m next)) (of_sized result) room.new }
 {
     let at = rest.at + rest.pending;
-    let k = replace_part(
+    let k = replace_others(
         arities,
         room,
-        Part::Others,
         at,
         rest.pile,
         x,

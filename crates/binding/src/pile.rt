@@ -4,6 +4,7 @@ ghost use Rattle.room.specs.Room.{seg};
 ghost use Rattle.room.specs.Parts.{ReplaceParts};
 ghost use Rattle.room.specs.Replaced.{replaced};
 ghost use Rattle.terms.specs.Bounds.{edition_one};
+ghost use Rattle.rows.specs.declared.parts.Part.TheVariants.{Entries, Others};
 ghost use Rattle.rows.specs.Pile.{wants, selection};
 ghost use Rattle.rows.specs.Wrote.{Wrote};
 
@@ -53,9 +54,8 @@ fn replace_entries(
     Some(written)
 }
 
-// Writes the entries of x, which its binding releases, or the others, which stay in the pile. Many piles are empty, and need no look; nor do entries need a
-// walk where x is none of the words: then no entry is x's, and the others are written as they are.
-pub fn replace_part(
+// `replace_entries`, which need not walk where x is none of the words: then no entry is x's, and the others are written as they are.
+fn replace_part(
     arities: &[u8],
     room: &mut [u16],
     part: Part,
@@ -70,9 +70,6 @@ pub fn replace_part(
     requires { ReplaceParts room.old from n by m to capacity × length room.old < 2 ^ 32 }
     ensures { Wrote room.old to capacity (replaced x (seg room.old by m) (selection edition_one arities.now part x (seg room.old from n))) result room.new }
 {
-    if n == 0 {
-        return Some(0);
-    }
     let end = from + n;
     if !is_in(&room[from..end], x) {
         match part {
@@ -89,4 +86,59 @@ pub fn replace_part(
         }
     }
     replace_entries(arities, room, part, from, n, x, by, m, to, capacity)
+}
+
+// Writes the entries of x, which its binding releases. Many piles are empty, and need no look.
+// Kept: two functions for the two parts, each over `replace_part`. Callers take in this test whole; one function for both became a call at each node, of a seventh more instructions in all.
+pub fn replace_released(
+    arities: &[u8],
+    room: &mut [u16],
+    from: usize,
+    n: usize,
+    x: u16,
+    by: usize,
+    m: usize,
+    to: usize,
+    capacity: usize,
+) -> Option<usize>
+    requires { ReplaceParts room.old from n by m to capacity × length room.old < 2 ^ 32 }
+    ensures { Wrote room.old to capacity (replaced x (seg room.old by m) (selection edition_one arities.now Entries x (seg room.old from n))) result room.new }
+{
+    if n == 0 {
+        return Some(0);
+    }
+    replace_part(
+        arities,
+        room,
+        Part::Entries,
+        from,
+        n,
+        x,
+        by,
+        m,
+        to,
+        capacity,
+    )
+}
+
+// Writes the other entries, which stay in the pile.
+// Kept: as `replace_released`.
+pub fn replace_others(
+    arities: &[u8],
+    room: &mut [u16],
+    from: usize,
+    n: usize,
+    x: u16,
+    by: usize,
+    m: usize,
+    to: usize,
+    capacity: usize,
+) -> Option<usize>
+    requires { ReplaceParts room.old from n by m to capacity × length room.old < 2 ^ 32 }
+    ensures { Wrote room.old to capacity (replaced x (seg room.old by m) (selection edition_one arities.now Others x (seg room.old from n))) result room.new }
+{
+    if n == 0 {
+        return Some(0);
+    }
+    replace_part(arities, room, Part::Others, from, n, x, by, m, to, capacity)
 }

@@ -19,8 +19,8 @@ overflow_sub-capacity c =
     let k = pending_within c.requires c.args.arities.now _ c.replace_all.ensures.value c.replace_all.ensures.room_after _ c.in_ok-k.was in
     omega arith
 
-pub replace_part-requires : goal.replace_part-requires
-replace_part-requires c =
+pub replace_released-requires : goal.replace_released-requires
+replace_released-requires c =
     entries-parts c.requires c.args.arities.now _ c.replace_all.ensures.value c.replace_all.ensures.room_after _ c.in_ok-k.was
 
 pub overflow_add-result : goal.overflow_add-result

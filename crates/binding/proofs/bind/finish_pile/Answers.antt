@@ -1,8 +1,8 @@
 use Rattle.binding.proofs.Finishing.{others-parts, pile_next, pile_finished, pile_full}
 use Rattle.binding.proofs.bind.finish_pile.Goals as goal
 
-pub replace_part-requires : goal.replace_part-requires
-replace_part-requires c = others-parts c.requires
+pub replace_others-requires : goal.replace_others-requires
+replace_others-requires c = others-parts c.requires
 
 pub finish_bindings-requires : goal.finish_bindings-requires
 finish_bindings-requires c =

@@ -1,4 +1,4 @@
-use Rattle.binding.proofs.Absent.{whole_parts, absent_entries, absent_full, absent_others, none_written}
+use Rattle.binding.proofs.Absent.{whole_parts, absent_entries, absent_full, absent_others}
 use Rattle.binding.proofs.pile.replace_part.Goals as goal
 
 pub returns-in-Entries : goal.returns-in-Entries
@@ -17,6 +17,3 @@ returns-in-Others c =
     let is_in_told = c.is_in.ensures in
     let if1 = c.if-not-is_in.true-raw in
     rw c.in-Others.is (absent_others _ c.requires.0 _ is_in_told if1 c.if-capacity-n.false c.copy.ensures)
-
-pub returns-then-n-eq0 : goal.returns-then-n-eq0
-returns-then-n-eq0 c = none_written _ _ _ _ _ _ _ _ _ c.if-n-eq0.true
