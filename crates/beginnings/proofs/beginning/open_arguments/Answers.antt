@@ -5,19 +5,19 @@ use Rattle.items.proofs.FirstByte.{arguments-refused, arguments_open, arguments-
 use Rattle.beginnings.proofs.beginning.open_arguments.Goals as goal
 
 pub returns-then-arity-eq0 : goal.returns-then-arity-eq0
-returns-then-arity-eq0 c = record { exact = λ l. arguments-refused _ _ c.peek.ensures _ _ _ c.if-peek-eq-ARGUMENTS_OPEN.true c.if-arity-eq0.true; within = omega arith }
+returns-then-arity-eq0 c = λ ws. arguments-refused _ _ c.peek.ensures _ _ _ c.if-peek-eq-ARGUMENTS_OPEN.true c.if-arity-eq0.true
 
 pub overflow_add-result : goal.overflow_add-result
 overflow_add-result c = omega (arith, found _ _ c.peek.ensures (omega arith))
 
 pub returns-then-depth-lt-NESTING : goal.returns-then-depth-lt-NESTING
-returns-then-depth-lt-NESTING c = record { exact = λ l. arguments_open _ _ c.peek.ensures _ _ _ c.if-peek-eq-ARGUMENTS_OPEN.true c.if-arity-eq0.false c.if-depth-lt-NESTING.true; within = omega arith }
+returns-then-depth-lt-NESTING c = λ ws. arguments_open _ _ c.peek.ensures _ _ _ c.if-peek-eq-ARGUMENTS_OPEN.true c.if-arity-eq0.false c.if-depth-lt-NESTING.true
 
 pub returns-then-peek-eq-ARGUMENTS_OPEN : goal.returns-then-peek-eq-ARGUMENTS_OPEN
-returns-then-peek-eq-ARGUMENTS_OPEN c = record { exact = λ l. arguments-deep _ _ c.peek.ensures _ _ _ c.if-peek-eq-ARGUMENTS_OPEN.true c.if-arity-eq0.false c.if-depth-lt-NESTING.false; within = omega arith }
+returns-then-peek-eq-ARGUMENTS_OPEN c = λ ws. arguments-deep _ _ c.peek.ensures _ _ _ c.if-peek-eq-ARGUMENTS_OPEN.true c.if-arity-eq0.false c.if-depth-lt-NESTING.false
 
 pub returns-then-arity-eq0-2 : goal.returns-then-arity-eq0-2
-returns-then-arity-eq0-2 c = record { exact = λ l. arguments_none _ _ c.peek.ensures _ _ _ c.if-peek-eq-ARGUMENTS_OPEN.false c.if-arity-eq0-2.true; within = omega arith }
+returns-then-arity-eq0-2 c = λ ws. arguments_none _ _ c.peek.ensures _ _ _ c.if-peek-eq-ARGUMENTS_OPEN.false c.if-arity-eq0-2.true
 
 pub returns : goal.returns
-returns c = record { exact = λ l. arguments_lacking _ _ c.peek.ensures _ _ _ c.if-peek-eq-ARGUMENTS_OPEN.false c.if-arity-eq0-2.false; within = omega arith }
+returns c = λ ws. arguments_lacking _ _ c.peek.ensures _ _ _ c.if-peek-eq-ARGUMENTS_OPEN.false c.if-arity-eq0-2.false

@@ -8,7 +8,7 @@ pub overflow_add-result : goal.overflow_add-result
 overflow_add-result c = omega (arith, found _ _ c.peek.ensures (omega arith))
 
 pub returns-then-peek-eq-SET_CLOSES : goal.returns-then-peek-eq-SET_CLOSES
-returns-then-peek-eq-SET_CLOSES c = record { exact = λ l. after_tail_close _ _ c.peek.ensures _ c.if-peek-eq-SET_CLOSES.true; within = omega arith }
+returns-then-peek-eq-SET_CLOSES c = λ ws. after_tail_close _ _ c.peek.ensures _ c.if-peek-eq-SET_CLOSES.true
 
 pub returns : goal.returns
-returns c = record { exact = λ l. after_tail_none _ _ c.peek.ensures _ c.if-peek-eq-SET_CLOSES.false; within = omega arith }
+returns c = λ ws. after_tail_none _ _ c.peek.ensures _ c.if-peek-eq-SET_CLOSES.false
