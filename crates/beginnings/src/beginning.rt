@@ -53,7 +53,7 @@ fn read_unknown(
 fn open_arguments(text: &[u8], at: usize, arity: usize, depth: usize) -> Result<Next, Refusal>
     ensures { (ws : List ℕ) → of_next result ws ≡ arguments edition_one text.now depth arity at ws }
 {
-    if peek(text, at) == bytes::ARGUMENTS_OPEN {
+    if peek(text, at) == Some(bytes::ARGUMENTS_OPEN) {
         if arity == 0 {
             return Err(Refusal {
                 cause: Cause::Arguments,
@@ -103,7 +103,7 @@ fn open_set(text: &[u8], at: usize, depth: usize, words: &mut Words) -> Result<N
     requires { at < length text.now }
     ensures { of_next result words.new.items ≡ a_set edition_one text.now depth at words.old.items }
 {
-    if peek(text, at + 1) == bytes::SET_CLOSES {
+    if peek(text, at + 1) == Some(bytes::SET_CLOSES) {
         return end_empty(text, at + 1, words);
     }
     if depth < bounds::NESTING {
@@ -125,18 +125,13 @@ pub fn begin(
 ) -> Result<Next, Refusal>
     ensures { of_next result words.new.items ≡ beginning edition_one text.now declared.now.unknowns declared.now.arities.now.items depth at words.old.items }
 {
-    let b = peek(text, at);
-    if b == bytes::UNKNOWN {
-        return read_unknown(text, at, declared, words);
+    match peek(text, at) {
+        Some(bytes::UNKNOWN) => read_unknown(text, at, declared, words),
+        Some(bytes::FUNCTOR) => read_functor(text, at, declared, depth, words),
+        Some(bytes::SET_OPENS) => open_set(text, at, depth, words),
+        _ => Err(Refusal {
+            cause: Cause::Byte,
+            place: at,
+        }),
     }
-    if b == bytes::FUNCTOR {
-        return read_functor(text, at, declared, depth, words);
-    }
-    if b == bytes::SET_OPENS {
-        return open_set(text, at, depth, words);
-    }
-    Err(Refusal {
-        cause: Cause::Byte,
-        place: at,
-    })
 }

@@ -42,17 +42,20 @@ fn read_numbers(text: &[u8], at: usize, arities: &mut Arities) -> Result<usize, 
     for _ in 0..bounds::FUNCTORS {
         let read = read_between(text, p, 0, ARITY)?;
         arities.push(read.value as u8);
-        let b = peek(text, read.end);
-        if b == bytes::LINE_FEED {
-            return Ok(read.end + 1);
+        match peek(text, read.end) {
+            Some(bytes::LINE_FEED) => {
+                return Ok(read.end + 1);
+            }
+            Some(bytes::COMMA) => {
+                p = read.end + 1;
+            }
+            _ => {
+                return Err(Refusal {
+                    cause: Cause::Byte,
+                    place: read.end,
+                });
+            }
         }
-        if b != bytes::COMMA {
-            return Err(Refusal {
-                cause: Cause::Byte,
-                place: read.end,
-            });
-        }
-        p = read.end + 1;
     }
     Err(Refusal {
         cause: Cause::Limit,
@@ -66,7 +69,7 @@ fn read_arities(text: &[u8], at: usize, arities: &mut Arities) -> Result<usize, 
 {
     let p = meet(text, at, &text::ARITIES)?;
     arities.clear();
-    if peek(text, p) == bytes::LINE_FEED {
+    if peek(text, p) == Some(bytes::LINE_FEED) {
         return Ok(p + 1);
     }
     read_numbers(text, p, arities)

@@ -2,6 +2,7 @@
 // Words go to a vector with room for as many as a question may have, which lies in the value itself.
 ghost use Rattle.std.specs.Prelude.{◌≡◌, List, ℕ, ◌<◌, length};
 ghost use Rattle.terms.specs.Bounds.{edition_one};
+ghost use Rattle.numerals.specs.Bytes.{of_byte};
 ghost use Rattle.items.specs.Items.{begins, due_member, due_tail, close_empty, after, after_member, after_argument, after_tail, of_next};
 
 use arrayvec::ArrayVec;
@@ -30,16 +31,10 @@ pub enum Next {
 pub type Words = ArrayVec<u16, SYMBOLS>;
 
 // Does a term begin with this byte?
-fn begins_term(b: usize) -> bool
-    ensures { result ≡ begins b }
+fn begins_term(b: Option<u8>) -> bool
+    ensures { result ≡ begins (of_byte b) }
 {
-    if b == bytes::UNKNOWN {
-        return true;
-    }
-    if b == bytes::FUNCTOR {
-        return true;
-    }
-    b == bytes::SET_OPENS
+    matches!(b, Some(bytes::UNKNOWN | bytes::FUNCTOR | bytes::SET_OPENS))
 }
 
 // A member is due at `at`: the member adding counts there.
@@ -81,7 +76,7 @@ pub fn end_empty(text: &[u8], at: usize, words: &mut Words) -> Result<Next, Refu
 fn open_tail(text: &[u8], at: usize) -> Result<Next, Refusal>
     ensures { (ws : List ℕ) → of_next result ws ≡ due_tail text.now at ws }
 {
-    if peek(text, at) == bytes::SET_OPENS {
+    if peek(text, at) == Some(bytes::SET_OPENS) {
         return Err(Refusal {
             cause: Cause::Byte,
             place: at,
@@ -94,27 +89,22 @@ fn open_tail(text: &[u8], at: usize) -> Result<Next, Refusal>
 fn pass_member(text: &[u8], at: usize, words: &mut Words) -> Result<Next, Refusal>
     ensures { of_next result words.new.items ≡ after_member edition_one text.now at words.old.items }
 {
-    let b = peek(text, at);
-    if b == bytes::COMMA {
-        return open_member(text, at + 1, words);
+    match peek(text, at) {
+        Some(bytes::COMMA) => open_member(text, at + 1, words),
+        Some(bytes::BAR) => open_tail(text, at + 1),
+        Some(bytes::SET_CLOSES) => end_empty(text, at, words),
+        _ => Err(Refusal {
+            cause: Cause::Byte,
+            place: at,
+        }),
     }
-    if b == bytes::BAR {
-        return open_tail(text, at + 1);
-    }
-    if b == bytes::SET_CLOSES {
-        return end_empty(text, at, words);
-    }
-    Err(Refusal {
-        cause: Cause::Byte,
-        place: at,
-    })
 }
 
 // A tail has ended at `at`.
 fn pass_tail(text: &[u8], at: usize) -> Result<Next, Refusal>
     ensures { (ws : List ℕ) → of_next result ws ≡ after_tail text.now at ws }
 {
-    if peek(text, at) == bytes::SET_CLOSES {
+    if peek(text, at) == Some(bytes::SET_CLOSES) {
         return Ok(Next::Done(at + 1));
     }
     Err(Refusal {
@@ -127,29 +117,30 @@ fn pass_tail(text: &[u8], at: usize) -> Result<Next, Refusal>
 fn pass_argument(text: &[u8], at: usize, left: usize) -> Result<Next, Refusal>
     ensures { (ws : List ℕ) → of_next result ws ≡ after_argument text.now left at ws }
 {
-    let b = peek(text, at);
-    if b == bytes::COMMA {
-        if left == 0 {
-            return Err(Refusal {
+    match peek(text, at) {
+        Some(bytes::COMMA) => {
+            if left == 0 {
+                return Err(Refusal {
+                    cause: Cause::Arguments,
+                    place: at,
+                });
+            }
+            Ok(Next::Due(Item::Argument(left - 1), at + 1))
+        }
+        Some(bytes::ARGUMENTS_CLOSE) => {
+            if left == 0 {
+                return Ok(Next::Done(at + 1));
+            }
+            Err(Refusal {
                 cause: Cause::Arguments,
                 place: at,
-            });
+            })
         }
-        return Ok(Next::Due(Item::Argument(left - 1), at + 1));
-    }
-    if b == bytes::ARGUMENTS_CLOSE {
-        if left == 0 {
-            return Ok(Next::Done(at + 1));
-        }
-        return Err(Refusal {
-            cause: Cause::Arguments,
+        _ => Err(Refusal {
+            cause: Cause::Byte,
             place: at,
-        });
+        }),
     }
-    Err(Refusal {
-        cause: Cause::Byte,
-        place: at,
-    })
 }
 
 // An item has ended at `at`.

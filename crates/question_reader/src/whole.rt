@@ -7,8 +7,7 @@ ghost use Rattle.question_reader.specs.Questions.{side, equation, equations, que
 use beginnings::declared::{Arities, Declared};
 use header_reader::header::read_header;
 use items::item::Words;
-use numerals::bytes;
-use numerals::bytes::{meet, peek};
+use numerals::bytes::meet;
 use results::read::Counts;
 use term_reader::term::read_term;
 use terms::refusal::{Cause, Refusal};
@@ -59,8 +58,8 @@ fn read_equations(
         let end = read_equation(text, p, declared, words)?;
         p = end;
     }
-    if peek(text, p) == bytes::STOPPED {
-        return Ok(text.len());
+    if p == text.len() {
+        return Ok(p);
     }
     Err(Refusal {
         cause: Cause::Byte,

@@ -21,28 +21,33 @@ pub overflow_cast-read : goal.overflow_cast-read
 overflow_cast-read c = omega (arith, between-most _ _ _ _ _ _ (sym c.in_ok-read.ensures))
 
 pub overflow_add-result : goal.overflow_add-result
-overflow_add-result c = omega (arith, found _ _ c.peek-b.ensures (omega arith))
+overflow_add-result c = omega (arith, found _ _ c.in-Some-eq10.ensures (omega arith))
 
-pub returns-then-b-eq-LINE_FEED : goal.returns-then-b-eq-LINE_FEED
-returns-then-b-eq-LINE_FEED c =
+pub returns-in-Some-eq10 : goal.returns-in-Some-eq10
+returns-in-Some-eq10 c =
     rw c.push.ensures.items (
-    arity_last _ _ _ _ _ _ (sym c.in_ok-read.ensures) c.peek-b.ensures _ (omega arith) c.if-b-eq-LINE_FEED.true ∙ sym c.loop.invariant.0
+    arity_last _ _ _ _ _ _ (sym c.in_ok-read.ensures) c.in-Some-eq10.ensures _ (omega arith) c.in-Some-eq10.field-0-test ∙ sym c.loop.invariant.0
     )
 
-pub returns-then-b-ne-COMMA : goal.returns-then-b-ne-COMMA
-returns-then-b-ne-COMMA c =
-    arity_other _ _ _ _ _ _ (sym c.in_ok-read.ensures) c.peek-b.ensures _ (omega arith) c.if-b-ne-COMMA.true c.if-b-eq-LINE_FEED.false
+pub returns-in_default : goal.returns-in_default
+returns-in_default c =
+    let t = c.in_default.field-0-test in
+    arity_other _ _ _ _ _ _ (sym c.in_ok-read.ensures) c.in_default.ensures _ (omega arith) t.1 t.0.1 ∙ sym c.loop.invariant.0
+
+pub returns-in_default-2 : goal.returns-in_default-2
+returns-in_default-2 c =
+    arity_other _ _ _ _ _ _ (sym c.in_ok-read.ensures) (rw c.in_default.is at c.peek.ensures) _ (omega arith) (λ z. absurd (omega arith)) (λ z. absurd (omega arith))
     ∙ sym c.loop.invariant.0
 
 pub overflow_add-p : goal.overflow_add-p
-overflow_add-p c = omega (arith, found _ _ c.peek-b.ensures (omega arith))
+overflow_add-p c = omega (arith, found _ _ c.in-Some-eq44.ensures (omega arith))
 
 pub loop-preserved : goal.loop-preserved
 loop-preserved c =
     let z : FUNCTORS - (c.loop.counter + 1) ≡ FUNCTORS - c.loop.counter - 1 = omega arith in (
       rw (c.push.ensures.items, z)
           (c.loop.invariant.0
-          ∙ arity_more _ _ _ _ _ _ (sym c.in_ok-read.ensures) c.peek-b.ensures _ (omega arith) c.if-b-ne-COMMA.false),
+          ∙ arity_more _ _ _ _ _ _ (sym c.in_ok-read.ensures) c.in-Some-eq44.ensures _ (omega arith) c.in-Some-eq44.field-0-test),
       search rules,
     )
 
