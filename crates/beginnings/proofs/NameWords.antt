@@ -1,20 +1,19 @@
 -- Names: the number of an unknown or a functor after its letter, and the word that is stored for it.
 use Prim.Native.Nat.{ℕ, ◌+◌, ◌≤◌, ◌<◌}
 use native.Mathlib.Omega.{arith}
-use mathlib.Core.Path.{◌≡◌, sym, ap, ◌∙◌}
-use mathlib.Core.List.{List}
+use mathlib.Core.Path.{◌≡◌, sym, ◌∙◌}
+use mathlib.Core.List.{List, [], ◌∷◌, ◌++◌}
 use borrow.Author.Tests.{lt-ltb, le-ltb, ltb-true}
 use lib.Dec.{ltb}
-use lib.ListN.{length, take, set, get_or}
+use lib.ListN.{length, get_or}
 use Rattle.terms.specs.Bounds.{edition_one, SYMBOLS, FIRST_UNKNOWN, FIRST_FUNCTOR}
 use Rattle.terms.specs.Lists.{cases}
 use Rattle.terms.specs.declared.refusal.Cause.TheVariants.{Limit, Undeclared}
 use Rattle.terms.specs.declared.refusal.Refusal.{Refusal}
 use Rattle.text.specs.Text.{choose}
 use Rattle.numerals.specs.TextReading.{Reading, read, refused, fault, and_then, then-read, then-refused}
-use Rattle.numerals.specs.Numbers.{number, of_numeral}
-use Rattle.items.specs.Items.{done, symbol, name, an_unknown, a_functor, arguments, Room}
-use Rattle.items.proofs.WordsSoFar.{counted, stored}
+use Rattle.numerals.specs.Numbers.{number}
+use Rattle.items.specs.Items.{done, symbol, name, an_unknown, a_functor, arguments}
 
 module _ (s : List ℕ) (declared p n : ℕ) where
   pub name_full : SYMBOLS ≤ n → fault Limit p ≡ name edition_one s declared p n
@@ -51,30 +50,26 @@ module _ (s : List ℕ) (declared p n : ℕ) where
           (λ t. let y : ◌≡◌ {A = Reading ℕ} (read q' i') (read q i) = rw t at z in let x : i' ≡ i = cc in omega (arith, ltb-true i' declared t))
           (λ t. let x : ◌≡◌ {A = Reading ℕ} (fault Undeclared p) (read q i) = rw t at z in let y : ◌≡◌ {A = ℕ} 0 1 = cc in absurd (omega arith))
 
-name-counted : {l : List ℕ} {n : ℕ} → Room l n → (s : List ℕ) (declared p : ℕ)
-    → name edition_one s declared p (length (take n l)) ≡ name edition_one s declared p n
-name-counted R s declared p = rw (counted R)
+module _ (s : List ℕ) (declared p : ℕ) (ws : List ℕ) where
+  module _ {i q : ℕ} (e : read q i ≡ name edition_one s declared p (length ws)) where
+    pub named-told : (length ws < SYMBOLS) × (i < declared)
+    named-told = name-told s declared p (length ws) q i (sym e)
 
-module _ {l : List ℕ} {n : ℕ} (R : Room l n) (s : List ℕ) (declared p : ℕ) where
-  module _ {i q : ℕ} (e : read q i ≡ name edition_one s declared p n) where
-    pub named-told : (n < SYMBOLS) × (i < declared)
-    named-told = name-told s declared p n q i (sym e)
-
-    pub unknown_read : read q (done (take (n + 1) (set l n (FIRST_UNKNOWN + i)))) ≡ an_unknown edition_one s declared p (take n l)
+    pub unknown_read : read q (done (ws ++ ((FIRST_UNKNOWN + i) ∷ []))) ≡ an_unknown edition_one s declared p ws
     unfolding an_unknown edition_one
-    unknown_read = rw (stored R (FIRST_UNKNOWN + i) named-told.0) (sym (then-read _ (name-counted R s declared p ∙ sym e)))
+    unknown_read = sym (then-read _ (sym e))
 
-  pub unknown_unfit : (f : Refusal) → refused f ≡ name edition_one s declared p n → refused f ≡ an_unknown edition_one s declared p (take n l)
+  pub unknown_unfit : (f : Refusal) → refused f ≡ name edition_one s declared p (length ws) → refused f ≡ an_unknown edition_one s declared p ws
   unfolding an_unknown
-  unknown_unfit f e = sym (then-refused _ (name-counted R s declared p ∙ sym e))
+  unknown_unfit f e = sym (then-refused _ (sym e))
 
-module _ {l : List ℕ} {n : ℕ} (R : Room l n) (s arities : List ℕ) (depth p : ℕ) where
-  pub functor_read : {k q : ℕ} → read q k ≡ name edition_one s (length arities) p n
-      → arguments edition_one s depth (get_or arities k 0) q (take (n + 1) (set l n (FIRST_FUNCTOR + k))) ≡ a_functor edition_one s arities depth p (take n l)
+-- m functors are declared
+module _ (s arities : List ℕ) (depth p : ℕ) (ws : List ℕ) {m : ℕ} (h : m ≡ length arities) where
+  pub functor_read : {k q : ℕ} → read q k ≡ name edition_one s m p (length ws)
+      → arguments edition_one s depth (get_or arities k 0) q (ws ++ ((FIRST_FUNCTOR + k) ∷ [])) ≡ a_functor edition_one s arities depth p ws
   unfolding a_functor edition_one
-  functor_read {k} {q} e =
-      sym (rw (stored R (FIRST_FUNCTOR + k) (named-told R s (length arities) p e).0) (then-read _ (name-counted R s (length arities) p ∙ sym e)))
+  functor_read e = sym (then-read _ (sym (rw h at e)))
 
-  pub functor_unfit : (f : Refusal) → refused f ≡ name edition_one s (length arities) p n → refused f ≡ a_functor edition_one s arities depth p (take n l)
+  pub functor_unfit : (f : Refusal) → refused f ≡ name edition_one s m p (length ws) → refused f ≡ a_functor edition_one s arities depth p ws
   unfolding a_functor
-  functor_unfit f e = sym (then-refused _ (name-counted R s (length arities) p ∙ sym e))
+  functor_unfit f e = sym (then-refused _ (sym (rw h at e)))

@@ -1,11 +1,11 @@
 // How a term begins: its name, its first bracket, or the empty set. At a symbol the refusals come in the order of SPECIFICATION 4.4.
-// Words go to a slice that holds as many as a question may have; n is the number of words so far.
-ghost use Rattle.std.specs.Prelude.{◌≡◌, List, ℕ, ◌≤◌, ◌<◌, length, take};
-ghost use Rattle.terms.specs.Bounds.{edition_one, UNKNOWNS, SYMBOLS, FUNCTORS};
+ghost use Rattle.std.specs.Prelude.{◌≡◌, List, ℕ, ◌<◌, length};
+ghost use Rattle.terms.specs.Bounds.{edition_one};
 ghost use Rattle.numerals.specs.Numbers.{of_numeral};
-ghost use Rattle.items.specs.Items.{name, an_unknown, arguments, a_functor, a_set, beginning, of_next, count_of_next, Room};
+ghost use Rattle.items.specs.Items.{name, an_unknown, arguments, a_functor, a_set, beginning, of_next};
 
-use items::item::{Item, Next, end_empty, open_member};
+use crate::declared::Declared;
+use items::item::{Item, Next, Words, end_empty, open_member};
 use numerals::bytes;
 use numerals::bytes::peek;
 use numerals::number::{Numeral, read_number};
@@ -14,11 +14,11 @@ use terms::kind::{functor_word, unknown_word};
 use terms::refusal::{Cause, Refusal};
 
 // The number of the name whose letter stands at `at`; so many are declared.
-fn read_name(text: &[u8], at: usize, declared: usize, n: usize) -> Result<Numeral, Refusal>
+fn read_name(text: &[u8], at: usize, declared: usize, words: &Words) -> Result<Numeral, Refusal>
     requires { at < length text.now }
-    ensures { of_numeral result ≡ name edition_one text.now declared at n }
+    ensures { of_numeral result ≡ name edition_one text.now declared at (length words.now.items) }
 {
-    if bounds::SYMBOLS <= n {
+    if words.is_full() {
         return Err(Refusal {
             cause: Cause::Limit,
             place: at,
@@ -38,31 +38,22 @@ fn read_name(text: &[u8], at: usize, declared: usize, n: usize) -> Result<Numera
 fn read_unknown(
     text: &[u8],
     at: usize,
-    unknowns: usize,
-    words: &mut [u16],
-    n: usize,
+    declared: &Declared<'_>,
+    words: &mut Words,
 ) -> Result<Next, Refusal>
-    requires { Room words.old n × (at < length text.now) × (unknowns ≤ UNKNOWNS) }
-    ensures exact { of_next result words.new ≡ an_unknown edition_one text.now unknowns at (take n words.old) }
-    ensures within { count_of_next result ≤ SYMBOLS }
+    requires { at < length text.now }
+    ensures { of_next result words.new.items ≡ an_unknown edition_one text.now declared.now.unknowns at words.old.items }
 {
-    let name = read_name(text, at, unknowns, n)?;
-    words[n] = unknown_word(name.value);
-    Ok(Next::Done(name.end, n + 1))
+    let name = read_name(text, at, declared.unknowns, words)?;
+    words.push(unknown_word(name.value));
+    Ok(Next::Done(name.end))
 }
 
 // What follows at `at` the name of a functor of this arity: its bracket, exactly if it has arguments.
-fn open_arguments(
-    text: &[u8],
-    at: usize,
-    arity: usize,
-    depth: usize,
-    n: usize,
-) -> Result<Next, Refusal>
-    ensures exact { (l : List ℕ) → of_next result l ≡ arguments edition_one text.now depth arity at (take n l) }
-    ensures within { count_of_next result ≤ n }
+fn open_arguments(text: &[u8], at: usize, arity: usize, depth: usize) -> Result<Next, Refusal>
+    ensures { (ws : List ℕ) → of_next result ws ≡ arguments edition_one text.now depth arity at ws }
 {
-    if peek(text, at) == bytes::ARGUMENTS_OPEN {
+    if peek(text, at) == Some(bytes::ARGUMENTS_OPEN) {
         if arity == 0 {
             return Err(Refusal {
                 cause: Cause::Arguments,
@@ -70,7 +61,7 @@ fn open_arguments(
             });
         }
         if depth < bounds::NESTING {
-            return Ok(Next::Due(Item::Argument(arity - 1), at + 1, n));
+            return Ok(Next::Due(Item::Argument(arity - 1), at + 1));
         }
         return Err(Refusal {
             cause: Cause::Nesting,
@@ -78,7 +69,7 @@ fn open_arguments(
         });
     }
     if arity == 0 {
-        return Ok(Next::Done(at, n));
+        return Ok(Next::Done(at));
     }
     Err(Refusal {
         cause: Cause::Arguments,
@@ -90,43 +81,33 @@ fn open_arguments(
 fn read_functor(
     text: &[u8],
     at: usize,
-    arities: &[u8],
+    declared: &Declared<'_>,
     depth: usize,
-    words: &mut [u16],
-    n: usize,
+    words: &mut Words,
 ) -> Result<Next, Refusal>
-    requires { Room words.old n × (at < length text.now) × (length arities.now ≤ FUNCTORS) }
-    ensures exact { of_next result words.new ≡ a_functor edition_one text.now arities.now depth at (take n words.old) }
-    ensures within { count_of_next result ≤ SYMBOLS }
+    requires { at < length text.now }
+    ensures { of_next result words.new.items ≡ a_functor edition_one text.now declared.now.arities.now.items depth at words.old.items }
 {
-    let name = read_name(text, at, arities.len(), n)?;
-    words[n] = functor_word(name.value);
+    let name = read_name(text, at, declared.arities.len(), words)?;
+    words.push(functor_word(name.value));
     open_arguments(
         text,
         name.end,
-        usize::from(arities[name.value]),
+        usize::from(declared.arities[name.value]),
         depth,
-        n + 1,
     )
 }
 
 // The set whose opening bracket stands at `at`, up to its first member.
-fn open_set(
-    text: &[u8],
-    at: usize,
-    depth: usize,
-    words: &mut [u16],
-    n: usize,
-) -> Result<Next, Refusal>
-    requires { Room words.old n × (at < length text.now) }
-    ensures exact { of_next result words.new ≡ a_set edition_one text.now depth at (take n words.old) }
-    ensures within { count_of_next result ≤ SYMBOLS }
+fn open_set(text: &[u8], at: usize, depth: usize, words: &mut Words) -> Result<Next, Refusal>
+    requires { at < length text.now }
+    ensures { of_next result words.new.items ≡ a_set edition_one text.now depth at words.old.items }
 {
-    if peek(text, at + 1) == bytes::SET_CLOSES {
-        return end_empty(text, at + 1, words, n);
+    if peek(text, at + 1) == Some(bytes::SET_CLOSES) {
+        return end_empty(text, at + 1, words);
     }
     if depth < bounds::NESTING {
-        return open_member(text, at + 1, words, n);
+        return open_member(text, at + 1, words);
     }
     Err(Refusal {
         cause: Cause::Nesting,
@@ -138,28 +119,19 @@ fn open_set(
 pub fn begin(
     text: &[u8],
     at: usize,
-    unknowns: usize,
-    arities: &[u8],
+    declared: &Declared<'_>,
     depth: usize,
-    words: &mut [u16],
-    n: usize,
+    words: &mut Words,
 ) -> Result<Next, Refusal>
-    requires { Room words.old n × (unknowns ≤ UNKNOWNS) × (length arities.now ≤ FUNCTORS) }
-    ensures exact { of_next result words.new ≡ beginning edition_one text.now unknowns arities.now depth at (take n words.old) }
-    ensures within { count_of_next result ≤ SYMBOLS }
+    ensures { of_next result words.new.items ≡ beginning edition_one text.now declared.now.unknowns declared.now.arities.now.items depth at words.old.items }
 {
-    let b = peek(text, at);
-    if b == bytes::UNKNOWN {
-        return read_unknown(text, at, unknowns, words, n);
+    match peek(text, at) {
+        Some(bytes::UNKNOWN) => read_unknown(text, at, declared, words),
+        Some(bytes::FUNCTOR) => read_functor(text, at, declared, depth, words),
+        Some(bytes::SET_OPENS) => open_set(text, at, depth, words),
+        _ => Err(Refusal {
+            cause: Cause::Byte,
+            place: at,
+        }),
     }
-    if b == bytes::FUNCTOR {
-        return read_functor(text, at, arities, depth, words, n);
-    }
-    if b == bytes::SET_OPENS {
-        return open_set(text, at, depth, words, n);
-    }
-    Err(Refusal {
-        cause: Cause::Byte,
-        place: at,
-    })
 }

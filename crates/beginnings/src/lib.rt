@@ -2,3 +2,4 @@
 #![tactic(auto)]
 
 pub mod beginning;
+pub mod declared;

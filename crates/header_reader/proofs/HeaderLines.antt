@@ -1,12 +1,9 @@
 -- The lines of the header: a line's three parts, and a turn of the arities' loop.
 use Prim.Native.Nat.{ℕ, zero, suc, ◌+◌, ◌-◌, ◌<◌}
-use native.Mathlib.Numerals.{add-one}
 use native.Mathlib.Omega.{arith}
 use mathlib.Core.Path.{◌≡◌, sym, ◌∙◌}
 use mathlib.Core.List.{List, [], ◌∷◌, ◌++◌}
 use borrow.Author.Tests.{ne_eqb}
-use lib.ListN.{length, take, set}
-use lib.Seq.{take-suc-set}
 use Rattle.terms.specs.Bounds.{edition_one, FUNCTORS, ARITY, UNKNOWNS, EQUATIONS}
 use Rattle.terms.specs.declared.refusal.Cause.TheVariants.{Byte, Limit}
 use Rattle.terms.specs.declared.refusal.Refusal.{Refusal}
@@ -98,14 +95,3 @@ module _ (s : List ℕ) where
         pub headed : (t m : ℕ) → line equations_key 0 EQUATIONS s r ≡ read t m → read t (record { unknowns = n; arities = ns; equations = m }) ≡ header edition_one s
         unfolding header edition_one
         headed t m j = sym (then-read _ e ∙ then-read _ k ∙ then-read _ i ∙ then-read _ j)
-
--- ---- a turn of the loop over the arities, of which l holds the first n
-
-module _ (s : List ℕ) (p q a : ℕ) (k : between 0 ARITY s p ≡ read q a) {b : ℕ} (e : b ≡ byte s q) (l : List ℕ) (n : ℕ) (h : n < FUNCTORS) (long : length l ≡ FUNCTORS) where
-  pub arities_turn : b ≡ 44 → arity_list (FUNCTORS - n) ARITY s p (take n l) ≡ arity_list (FUNCTORS - (n + 1)) ARITY s (q + 1) (take (n + 1) (set l n a))
-  arities_turn i =
-      let z : FUNCTORS - (n + 1) ≡ FUNCTORS - n - 1 = omega arith in
-      rw (add-one n, take-suc-set l n a (omega arith), ← add-one n, z) (arity_more ARITY s p (take n l) q a k e (FUNCTORS - n) (omega arith) i)
-
-  pub arities-last : b ≡ 10 → read (q + 1) (take (n + 1) (set l n a)) ≡ arity_list (FUNCTORS - n) ARITY s p (take n l)
-  arities-last i = rw (add-one n, take-suc-set l n a (omega arith)) (arity_last ARITY s p (take n l) q a k e (FUNCTORS - n) (omega arith) i)

@@ -1,5 +1,5 @@
 -- The header of a question's text: edition, unknowns, arities, equations, a line each.
-use Rattle.std.specs.Prelude.{ℕ, zero, suc, ◌+◌, List, [], ◌∷◌, ◌++◌, eqb, take, Result, Ok, Err}
+use Rattle.std.specs.Prelude.{ℕ, zero, suc, ◌+◌, List, [], ◌∷◌, ◌++◌, eqb, Result, Ok, Err}
 use Rattle.terms.specs.Bounds.{Bounds}
 use Rattle.terms.specs.declared.refusal.Cause.TheVariants.{Byte, Limit}
 use Rattle.terms.specs.declared.refusal.Refusal.{Refusal}
@@ -43,11 +43,7 @@ header b s =
     and_then (line equations_key 0 b.equations s r) (λ t e.
     read t (record { unknowns = n; arities = ns; equations = e })))))
 
--- the same, of the code's answer; a list holds the arities from its start
+-- the same, of the code's answer and the arities then
 abbrev pub of_heading : Result Heading Refusal → List ℕ → Reading Header
-of_heading (Ok h) l = read h.end (record { unknowns = h.unknowns; arities = take h.functors l; equations = h.equations })
-of_heading (Err r) l = refused r
-
-abbrev pub count_of_heading : Result Heading Refusal → ℕ
-count_of_heading (Ok h) = h.functors
-count_of_heading (Err r) = 0
+of_heading (Ok h) ns = read h.end (record { unknowns = h.unknowns; arities = ns; equations = h.equations })
+of_heading (Err r) ns = refused r

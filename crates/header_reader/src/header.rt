@@ -1,14 +1,14 @@
 // The header of a question's text: edition, unknowns, arities, equations.
-ghost use Rattle.std.specs.Prelude.{◌≡◌, [], ◌≤◌, length};
+ghost use Rattle.std.specs.Prelude.{◌≡◌, []};
 ghost use Rattle.terms.specs.Bounds.{edition_one, FUNCTORS, ARITY};
+ghost use Rattle.numerals.specs.Bytes.{of_met};
 ghost use Rattle.numerals.specs.Numbers.{of_numeral};
-ghost use Rattle.term_reader.specs.Terms.{of_got, count_of_got};
-ghost use Rattle.header_reader.specs.HeaderText.{line, arity_list, arity_line, header, of_heading, count_of_heading};
+ghost use Rattle.header_reader.specs.HeaderText.{line, arity_list, arity_line, header, of_heading};
 
+use beginnings::declared::Arities;
 use numerals::bytes;
 use numerals::bytes::{meet, peek};
 use numerals::number::{Numeral, read_between};
-use term_reader::term::Got;
 use terms::bounds;
 use terms::refusal::{Cause, Refusal};
 
@@ -33,30 +33,29 @@ fn read_line(
     })
 }
 
-// The arities, of which one is due at `at`.
-fn read_numbers(text: &[u8], at: usize, arities: &mut [u8]) -> Result<Got, Refusal>
-    requires { length arities.old ≡ FUNCTORS }
-    ensures exact { of_got result arities.new ≡ arity_list FUNCTORS ARITY text.now at [] }
-    ensures within { count_of_got result ≤ FUNCTORS }
+// The arities, of which one is due at `at`: where reading goes on after them.
+fn read_numbers(text: &[u8], at: usize, arities: &mut Arities) -> Result<usize, Refusal>
+    requires { arities.old.items ≡ [] }
+    ensures { of_met arities.new.items result ≡ arity_list FUNCTORS ARITY text.now at [] }
 {
     let mut p = at;
-    for n in 0..bounds::FUNCTORS {
+    for _ in 0..bounds::FUNCTORS {
         let read = read_between(text, p, 0, ARITY)?;
-        arities[n] = read.value as u8;
-        let b = peek(text, read.end);
-        if b == bytes::LINE_FEED {
-            return Ok(Got {
-                at: read.end + 1,
-                count: n + 1,
-            });
+        arities.push(read.value as u8);
+        match peek(text, read.end) {
+            Some(bytes::LINE_FEED) => {
+                return Ok(read.end + 1);
+            }
+            Some(bytes::COMMA) => {
+                p = read.end + 1;
+            }
+            _ => {
+                return Err(Refusal {
+                    cause: Cause::Byte,
+                    place: read.end,
+                });
+            }
         }
-        if b != bytes::COMMA {
-            return Err(Refusal {
-                cause: Cause::Byte,
-                place: read.end,
-            });
-        }
-        p = read.end + 1;
     }
     Err(Refusal {
         cause: Cause::Limit,
@@ -65,17 +64,13 @@ fn read_numbers(text: &[u8], at: usize, arities: &mut [u8]) -> Result<Got, Refus
 }
 
 // The line of the arities: a number is due after its key unless an LF follows at once.
-fn read_arities(text: &[u8], at: usize, arities: &mut [u8]) -> Result<Got, Refusal>
-    requires { length arities.old ≡ FUNCTORS }
-    ensures exact { of_got result arities.new ≡ arity_line edition_one text.now at }
-    ensures within { count_of_got result ≤ FUNCTORS }
+fn read_arities(text: &[u8], at: usize, arities: &mut Arities) -> Result<usize, Refusal>
+    ensures { of_met arities.new.items result ≡ arity_line edition_one text.now at }
 {
     let p = meet(text, at, &text::ARITIES)?;
-    if peek(text, p) == bytes::LINE_FEED {
-        return Ok(Got {
-            at: p + 1,
-            count: 0,
-        });
+    arities.clear();
+    if peek(text, p) == Some(bytes::LINE_FEED) {
+        return Ok(p + 1);
     }
     read_numbers(text, p, arities)
 }
@@ -84,24 +79,20 @@ fn read_arities(text: &[u8], at: usize, arities: &mut [u8]) -> Result<Got, Refus
 #[derive(Clone, Copy)]
 pub struct Heading {
     pub unknowns: usize,
-    pub functors: usize,
     pub equations: usize,
     pub end: usize,
 }
 
-// The four lines, with the arities at the start of a slice.
-pub fn read_header(text: &[u8], arities: &mut [u8]) -> Result<Heading, Refusal>
-    requires { length arities.old ≡ FUNCTORS }
-    ensures exact { of_heading result arities.new ≡ header edition_one text.now }
-    ensures within { count_of_heading result ≤ FUNCTORS }
+// The four lines, with the arities in `arities`.
+pub fn read_header(text: &[u8], arities: &mut Arities) -> Result<Heading, Refusal>
+    ensures { of_heading result arities.new.items ≡ header edition_one text.now }
 {
     let edition = read_line(text, 0, &text::EDITION, 1, 1)?;
     let unknowns = read_line(text, edition.end, &text::UNKNOWNS, 0, bounds::UNKNOWNS)?;
     let functors = read_arities(text, unknowns.end, arities)?;
-    let equations = read_line(text, functors.at, &text::EQUATIONS, 0, bounds::EQUATIONS)?;
+    let equations = read_line(text, functors, &text::EQUATIONS, 0, bounds::EQUATIONS)?;
     Ok(Heading {
         unknowns: unknowns.value,
-        functors: functors.count,
         equations: equations.value,
         end: equations.end,
     })

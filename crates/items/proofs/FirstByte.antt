@@ -1,10 +1,10 @@
 -- How a term begins, by the byte b that stands at p.
 use Prim.Native.Nat.{ℕ, ◌+◌, ◌-◌, ◌≤◌, ◌<◌}
 use mathlib.Core.Path.{◌≡◌}
+use mathlib.Core.Logic.{inl, inr, ◌⊎◌}
 use mathlib.Core.List.{List}
 use borrow.Author.Tests.{lt-ltb, le-ltb, ne_eqb}
-use lib.Dec.{eqb}
-use mathlib.Core.Bool.{true}
+use mathlib.Core.Bool.{true, false}
 use Rattle.terms.specs.Bounds.{edition_one, NESTING}
 use Rattle.terms.specs.declared.refusal.Cause.TheVariants.{Byte, Arguments, Nesting}
 use Rattle.numerals.specs.TextReading.{read, fault}
@@ -12,17 +12,15 @@ use Rattle.numerals.specs.Bytes.{byte}
 use Rattle.items.specs.Items.{due, done, begins, due_member, close_empty, an_unknown, a_functor, arguments, a_set, beginning}
 use Rattle.items.specs.declared.item.Item.TheVariants.{Argument}
 
-pub begins-x : (b : ℕ) → b ≡ 120 → true ≡ begins b
+pub begins-one : (b : ℕ) → (b ≡ 102) ⊎ ((b ≡ 120) ⊎ (b ≡ 123)) → true ≡ begins b
 unfolding begins
-begins-x b e = rw e
+begins-one b (inl e) = rw e
+begins-one b (inr (inl e)) = rw e
+begins-one b (inr (inr e)) = rw e
 
-pub begins-f : (b : ℕ) → (b ≡ 120 → ⊥) → b ≡ 102 → true ≡ begins b
+pub begins-none : (b : ℕ) → ((b ≡ 102) ⊎ ((b ≡ 120) ⊎ (b ≡ 123)) → ⊥) → false ≡ begins b
 unfolding begins
-begins-f b x e = rw e
-
-pub begins-last : (b : ℕ) → (b ≡ 120 → ⊥) → (b ≡ 102 → ⊥) → eqb b 123 ≡ begins b
-unfolding begins
-begins-last b x f = rw (ne_eqb b 120 x, ne_eqb b 102 f)
+begins-none b h = rw (ne_eqb b 120 (λ e. h (inr (inl e))), ne_eqb b 102 (λ e. h (inl e)), ne_eqb b 123 (λ e. h (inr (inr e))))
 
 -- a byte was found at p
 module _ (s : List ℕ) (p : ℕ) {b : ℕ} (e : b ≡ byte s p) where

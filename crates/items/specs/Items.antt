@@ -1,7 +1,7 @@
 -- How a term begins, and what follows an item of a list, in the order of refusals of SPECIFICATION 4.4.
 -- A member adding counts at its member's first byte, an empty set at its closing bracket.
-use Rattle.std.specs.Prelude.{ℕ, ◌+◌, ◌-◌, ◌≤◌, ◌≡◌, Bool, ◌||◌, List, [], ◌∷◌, ◌++◌, eqb, ltb, length, get_or, take, Result, Ok, Err}
-use Rattle.terms.specs.Bounds.{Bounds, SYMBOLS, EMPTY, MEMBER}
+use Rattle.std.specs.Prelude.{ℕ, ◌+◌, ◌-◌, Bool, ◌||◌, List, [], ◌∷◌, ◌++◌, eqb, ltb, length, get_or, Result, Ok, Err}
+use Rattle.terms.specs.Bounds.{Bounds, EMPTY, MEMBER}
 use Rattle.terms.specs.declared.refusal.Cause.TheVariants.{Byte, Limit, Undeclared, Arguments, Nesting}
 use Rattle.terms.specs.declared.refusal.Refusal.{Refusal}
 use Rattle.text.specs.Text.{choose}
@@ -110,18 +110,8 @@ module _ (b : Bounds) (s : List ℕ) where
   after Tail p ws = after_tail s p ws
   after (Argument left) p ws = after_argument s left p ws
 
--- the same, of the code's answer, which counts the words that a list holds from its start
+-- the same, of the code's answer and the words then
 abbrev pub of_next : Result Next Refusal → List ℕ → Reading Coming
-of_next (Ok (Due i p n)) l = read p (due i (take n l))
-of_next (Ok (Done p n)) l = read p (done (take n l))
-of_next (Err r) l = refused r
-
-abbrev pub count_of_next : Result Next Refusal → ℕ
-count_of_next (Ok (Due i p n)) = n
-count_of_next (Ok (Done p n)) = n
-count_of_next (Err r) = 0
-
--- the list l has room for as many words as a question may have, of which n are written
-pub record Room (l : List ℕ) (n : ℕ) : Type 0 where
-  pub long : length l ≡ SYMBOLS
-  pub within : n ≤ SYMBOLS
+of_next (Ok (Due i p)) ws = read p (due i ws)
+of_next (Ok (Done p)) ws = read p (done ws)
+of_next (Err r) ws = refused r

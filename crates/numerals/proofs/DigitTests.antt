@@ -2,17 +2,19 @@
 use Prim.Native.Nat.{ℕ, zero, suc, ◌+◌, ◌-◌, ◌*◌, ◌≤◌, ◌<◌}
 use native.Mathlib.Omega.{arith}
 use mathlib.Core.Path.{◌≡◌, refl, sym, ◌∙◌}
+use mathlib.Core.Logic.{inl, inr}
 use mathlib.Core.List.{List}
 use borrow.Author.Tests.{ne_eqb, lt-ltb, le-ltb, ltb-true, ltb-false}
 use lib.Dec.{ltb}
 use lib.ListN.{length}
+use Rattle.std.specs.Char.{IsNotAsciiDigit}
 use Rattle.terms.specs.Lists.{cases}
 use Rattle.terms.specs.declared.refusal.Cause.TheVariants.{Number, Limit}
 use Rattle.terms.specs.declared.refusal.Refusal.{Refusal}
 use Rattle.text.specs.Text.{choose}
 use Rattle.numerals.specs.TextReading.{read, refused, fault, then-read, then-refused}
 use Rattle.numerals.specs.Bytes.{byte, in_text}
-use Rattle.numerals.specs.Numbers.{digit, digits, number, between, digit-above}
+use Rattle.numerals.specs.Numbers.{digit, digits, number, between, digit-below, digit-above}
 
 -- a byte that is a digit is a byte of the text
 pub digit_in : (s : List ℕ) (p : ℕ) → digit (byte s p) < 10 → p < length s
@@ -20,6 +22,10 @@ digit_in s p h =
     cases (ltb (byte s p) 58)
     (λ t. in_text s p (omega (arith, ltb-true (byte s p) 58 t)))
     (λ t. let l = ltb-false (byte s p) 58 t in absurd (omega (arith, digit-above (byte s p) l)))
+
+pub digit_none : (b : ℕ) → IsNotAsciiDigit b → 10 ≡ digit b
+digit_none b (inl h) = sym (digit-below b h)
+digit_none b (inr h) = sym (digit-above b (omega arith))
 
 -- d was found at p
 module _ (s : List ℕ) (p : ℕ) {d : ℕ} (e : d ≡ digit (byte s p)) where

@@ -1,2 +1,3 @@
+pub mod ByteTests
 pub mod DigitTests
 pub mod KeyTurns

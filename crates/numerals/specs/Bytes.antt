@@ -1,5 +1,5 @@
 -- Bytes of a text: the byte at a place, and a run of bytes that is due there.
-use Rattle.std.specs.Prelude.{ℕ, zero, suc, ◌+◌, ◌≤◌, ◌<◌, ◌≡◌, refl, List, [], ◌∷◌, eqb, length, get_or, Result, Ok, Err}
+use Rattle.std.specs.Prelude.{ℕ, zero, suc, ◌+◌, ◌≤◌, ◌<◌, ◌≡◌, refl, List, [], ◌∷◌, eqb, length, get_or, Option, Some, None, Result, Ok, Err}
 use Rattle.std.proofs.Common.{arith}
 use Rattle.std.proofs.Math.ListN.{get_or-eq_default}
 use Rattle.terms.specs.declared.refusal.Cause.TheVariants.{Byte}
@@ -42,6 +42,11 @@ stopped = BYTES
 -- the byte at p
 unfoldable pub byte : List ℕ → ℕ → ℕ
 byte s p = get_or s p stopped
+
+-- the same, of the code's answer
+abbrev pub of_byte : Option ℕ → ℕ
+of_byte (Some b) = b
+of_byte None = stopped
 
 -- the bytes of a key, due at p; the first that differs is refused
 unfoldable pub met : List ℕ → List ℕ → ℕ → Result ℕ Refusal

@@ -1,40 +1,33 @@
 // Bytes of a text: the byte at a place, and a run of bytes that is due there.
 ghost use Rattle.std.specs.Prelude.{◌≡◌};
-ghost use Rattle.numerals.specs.Bytes.{byte, met};
+ghost use Rattle.numerals.specs.Bytes.{byte, met, of_byte};
 
 use terms::refusal::{Cause, Refusal};
 
-// The bytes that the text form has beside keys and digits, and what a text that has stopped reads as.
-pub const UNKNOWN: usize = 120;
+// The bytes that the text form has beside keys and digits.
+pub const UNKNOWN: u8 = b'x';
 
-pub const FUNCTOR: usize = 102;
+pub const FUNCTOR: u8 = b'f';
 
-pub const SET_OPENS: usize = 123;
+pub const SET_OPENS: u8 = b'{';
 
-pub const SET_CLOSES: usize = 125;
+pub const SET_CLOSES: u8 = b'}';
 
-pub const BAR: usize = 124;
+pub const BAR: u8 = b'|';
 
-pub const COMMA: usize = 44;
+pub const COMMA: u8 = b',';
 
-pub const ARGUMENTS_OPEN: usize = 40;
+pub const ARGUMENTS_OPEN: u8 = b'(';
 
-pub const ARGUMENTS_CLOSE: usize = 41;
+pub const ARGUMENTS_CLOSE: u8 = b')';
 
-pub const LINE_FEED: usize = 10;
+pub const LINE_FEED: u8 = b'\n';
 
-pub const STOPPED: usize = 256;
-
-// The byte at `at`, or 256 where the text has stopped.
-// Kept: `byte` gives 256 there, and `digit`, `met` and the laws of roundtrip test it as a number. With an `Option<u8>` each reader's arm `_` would have to be
-// proved from tests that have no names there, so the new form is no plainer.
-pub fn peek(text: &[u8], at: usize) -> usize
-    ensures { result ≡ byte text.now at }
+// The byte at `at`, if the text has not stopped there.
+pub fn peek(text: &[u8], at: usize) -> Option<u8>
+    ensures { of_byte result ≡ byte text.now at }
 {
-    if at < text.len() {
-        return usize::from(text[at]);
-    }
-    STOPPED
+    text.get(at).copied()
 }
 
 // The bytes of `key`, due at `at`: where reading goes on after them, or the first byte that differs.
@@ -43,7 +36,7 @@ pub fn meet(text: &[u8], at: usize, key: &[u8]) -> Result<usize, Refusal>
 {
     let mut p = at;
     for b in key {
-        if peek(text, p) != usize::from(*b) {
+        if peek(text, p) != Some(*b) {
             return Err(Refusal {
                 cause: Cause::Byte,
                 place: p,

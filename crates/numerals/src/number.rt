@@ -1,5 +1,6 @@
 // Numbers of a text: plain decimal, without a leading zero, of at most five digits.
 ghost use Rattle.std.specs.Prelude.{◌≡◌, ◌<◌, IfSome};
+ghost use Rattle.numerals.specs.Bytes.{of_byte};
 ghost use Rattle.numerals.specs.Numbers.{digit, digits, number, between, of_digit, of_numeral};
 
 use crate::bytes::peek;
@@ -13,17 +14,15 @@ pub struct Numeral {
 }
 
 // The value of the digit b, if it is one.
-pub fn digit_of(b: usize) -> Option<usize>
-    ensures exact { of_digit result ≡ digit b }
+pub fn digit_of(b: Option<u8>) -> Option<usize>
+    ensures exact { of_digit result ≡ digit (of_byte b) }
     ensures below { IfSome result (λ d. d < 10) }
 {
-    if b < 48 {
+    let b = b?;
+    if !b.is_ascii_digit() {
         return None;
     }
-    if b < 58 {
-        return Some(b - 48);
-    }
-    None
+    Some(usize::from(b - b'0'))
 }
 
 // The digits at `at` after a first digit; `from` is the number's first byte.

@@ -5,6 +5,7 @@ use native.Mathlib.Omega.{arith}
 use mathlib.Core.Path.{◌≡◌, refl, sym, ap, ◌∙◌}
 use mathlib.Core.List.{List, [], ◌∷◌}
 use borrow.Author.Tests.{ne_eqb}
+use Rattle.std.proofs.Common.{Result}
 use lib.ListN.{length, get_or}
 use Rattle.terms.specs.Bounds.{edition_one, BYTES, UNKNOWNS}
 use Rattle.terms.specs.Lists.{none, both, all}
@@ -12,13 +13,18 @@ use Rattle.terms.specs.declared.refusal.Cause.TheVariants.{Byte}
 use Rattle.terms.specs.declared.refusal.Refusal.{Refusal}
 use Rattle.text.specs.Keys.{left_key, right_key}
 use Rattle.numerals.specs.TextReading.{Reading, read, refused, fault, then-read, then-refused}
-use Rattle.numerals.specs.Bytes.{byte, meets, stopped}
+use Rattle.numerals.specs.Bytes.{byte, met, meets, of_met, stopped}
 use Rattle.term_reader.specs.Terms.{whole_term}
 use Rattle.header_reader.specs.HeaderText.{Header, header}
 use Rattle.question_reader.specs.Questions.{side, equation, equations, question}
 use Rattle.term_reader.specs.ReadingPlaces.{where_on, Any, key_placed}
 use Rattle.question_reader.specs.WholePlaces.{Bytes, literal, header_placed, side_placed, equation_placed, equations_placed}
 use Rattle.term_reader.specs.ReadingAnswers.{TermIs}
+
+-- the key's answer, with what was read before it
+pub of_met-meets : {A : Type 0} (s key : List ℕ) (p : ℕ) (a : A) {r : Result ℕ Refusal} → r ≡ met s key p → of_met a r ≡ meets s key p a
+unfolding meets
+of_met-meets s key p a e = rw e
 
 module _ (s : List ℕ) (unknowns : ℕ) (arities : List ℕ) where
   -- the fuel is enough at every place

@@ -1,6 +1,6 @@
 -- A question's text: its header, two terms for each equation, left then right, with nothing after.
-use Rattle.std.specs.Prelude.{ℕ, zero, suc, ◌≤◌, List, [], ◌∷◌, eqb, length, take, Result, Ok, Err}
-use Rattle.terms.specs.Bounds.{Bounds, FUNCTORS, SYMBOLS}
+use Rattle.std.specs.Prelude.{ℕ, zero, suc, ◌≡◌, List, [], ◌∷◌, eqb, length, Result, Ok, Err}
+use Rattle.terms.specs.Bounds.{Bounds}
 use Rattle.terms.specs.declared.refusal.Cause.TheVariants.{Byte}
 use Rattle.terms.specs.declared.refusal.Refusal.{Refusal}
 use Rattle.text.specs.Keys.{left_key, right_key}
@@ -35,12 +35,12 @@ question b s =
     and_then (header b s) (λ p h.
     and_then (equations b s h.unknowns h.arities h.equations p []) (λ q ws. read q (record { head = h; words = ws })))
 
--- what the code's answer tells of a text of so many bytes, before it is laid out
+-- what the code's answer tells of a text of so many bytes, with the arities and the words that it was read into
 abbrev pub of_question : ℕ → Result Counts Refusal → List ℕ → List ℕ → Reading Asked
-of_question len (Ok c) ns ws = read len (record { head = record { unknowns = c.unknowns; arities = take c.functors ns; equations = c.equations }; words = take c.words ws })
+of_question len (Ok c) ns ws = read len (record { head = record { unknowns = c.unknowns; arities = ns; equations = c.equations }; words = ws })
 of_question len (Err r) ns ws = refused r
 
--- the counts of the code's answer are within the arrays that it reads into
-abbrev pub WithinArrays : Result Counts Refusal → Type 0
-WithinArrays (Ok c) = (c.functors ≤ FUNCTORS) × (c.words ≤ SYMBOLS)
-WithinArrays (Err r) = Unit {0}
+-- the counts of the code's answer are those of the arities and the words that it was read into
+abbrev pub Counted : Result Counts Refusal → List ℕ → List ℕ → Type 0
+Counted (Ok c) ns ws = (c.functors ≡ length ns) × (c.words ≡ length ws)
+Counted (Err r) ns ws = Unit {0}

@@ -1,63 +1,45 @@
 // A question's text: its header, and two terms for each equation, with nothing after.
-ghost use Rattle.std.specs.Prelude.{◌≡◌, [], ◌≤◌, length, take};
-ghost use Rattle.terms.specs.Bounds.{edition_one, UNKNOWNS, FUNCTORS, SYMBOLS};
-ghost use Rattle.items.specs.Items.{Room};
-ghost use Rattle.term_reader.specs.Terms.{of_got, count_of_got};
-ghost use Rattle.question_reader.specs.Questions.{side, equation, equations, question, of_question, WithinArrays};
+ghost use Rattle.std.specs.Prelude.{◌≡◌, ◌≤◌, length};
+ghost use Rattle.terms.specs.Bounds.{edition_one};
+ghost use Rattle.numerals.specs.Bytes.{of_met};
+ghost use Rattle.question_reader.specs.Questions.{side, equation, equations, question, of_question, Counted};
 
+use beginnings::declared::{Arities, Declared};
 use header_reader::header::read_header;
-use numerals::bytes;
-use numerals::bytes::{meet, peek};
+use items::item::Words;
+use numerals::bytes::meet;
 use results::read::Counts;
-use term_reader::term::{Got, read_term};
+use term_reader::term::read_term;
 use terms::refusal::{Cause, Refusal};
 
-// One side of an equation: its key, a term, and LF.
+// One side of an equation, which is its key, a term, and LF: where reading goes on after it.
 fn read_side(
     text: &[u8],
     at: usize,
     key: &[u8],
-    unknowns: usize,
-    arities: &[u8],
-    words: &mut [u16],
-    n: usize,
-) -> Result<Got, Refusal>
-    requires { Room words.old n × (at ≤ length text.now) × (unknowns ≤ UNKNOWNS) × (length arities.now ≤ FUNCTORS) }
-    ensures exact { of_got result words.new ≡ side edition_one text.now unknowns arities.now key.now at (take n words.old) }
-    ensures within { count_of_got result ≤ SYMBOLS }
+    declared: &Declared<'_>,
+    words: &mut Words,
+) -> Result<usize, Refusal>
+    requires { at ≤ length text.now }
+    ensures { of_met words.new.items result ≡ side edition_one text.now declared.now.unknowns declared.now.arities.now.items key.now at words.old.items }
 {
     let p = meet(text, at, key)?;
-    let got = read_term(text, p, unknowns, arities, 0, words, n)?;
-    let end = meet(text, got.at, b"\n")?;
-    Ok(Got {
-        at: end,
-        count: got.count,
-    })
+    let end = read_term(text, p, declared, 0, words)?;
+    meet(text, end, b"\n")
 }
 
 // An equation: its left side and its right side.
 fn read_equation(
     text: &[u8],
     at: usize,
-    unknowns: usize,
-    arities: &[u8],
-    words: &mut [u16],
-    n: usize,
-) -> Result<Got, Refusal>
-    requires { Room words.old n × (at ≤ length text.now) × (unknowns ≤ UNKNOWNS) × (length arities.now ≤ FUNCTORS) }
-    ensures exact { of_got result words.new ≡ equation edition_one text.now unknowns arities.now at (take n words.old) }
-    ensures within { count_of_got result ≤ SYMBOLS }
+    declared: &Declared<'_>,
+    words: &mut Words,
+) -> Result<usize, Refusal>
+    requires { at ≤ length text.now }
+    ensures { of_met words.new.items result ≡ equation edition_one text.now declared.now.unknowns declared.now.arities.now.items at words.old.items }
 {
-    let left = read_side(text, at, &text::LEFT, unknowns, arities, words, n)?;
-    read_side(
-        text,
-        left.at,
-        &text::RIGHT,
-        unknowns,
-        arities,
-        words,
-        left.count,
-    )
+    let right = read_side(text, at, &text::LEFT, declared, words)?;
+    read_side(text, right, &text::RIGHT, declared, words)
 }
 
 // So many equations, and the text's end.
@@ -65,26 +47,19 @@ fn read_equations(
     text: &[u8],
     at: usize,
     count: usize,
-    unknowns: usize,
-    arities: &[u8],
-    words: &mut [u16],
-) -> Result<Got, Refusal>
-    requires { (length words.old ≡ SYMBOLS) × (at ≤ length text.now) × (unknowns ≤ UNKNOWNS) × (length arities.now ≤ FUNCTORS) }
-    ensures exact { of_got result words.new ≡ equations edition_one text.now unknowns arities.now count at [] }
-    ensures within { count_of_got result ≤ SYMBOLS }
+    declared: &Declared<'_>,
+    words: &mut Words,
+) -> Result<usize, Refusal>
+    requires { at ≤ length text.now }
+    ensures { of_met words.new.items result ≡ equations edition_one text.now declared.now.unknowns declared.now.arities.now.items count at words.old.items }
 {
     let mut p = at;
-    let mut n = 0;
     for _ in 0..count {
-        let got = read_equation(text, p, unknowns, arities, words, n)?;
-        p = got.at;
-        n = got.count;
+        let end = read_equation(text, p, declared, words)?;
+        p = end;
     }
-    if peek(text, p) == bytes::STOPPED {
-        return Ok(Got {
-            at: text.len(),
-            count: n,
-        });
+    if p == text.len() {
+        return Ok(p);
     }
     Err(Refusal {
         cause: Cause::Byte,
@@ -92,25 +67,22 @@ fn read_equations(
     })
 }
 
-// The whole text, with its arities and its words at the start of a slice each.
-pub fn read_whole(text: &[u8], table: &mut [u8], held: &mut [u16]) -> Result<Counts, Refusal>
-    requires { (length table.old ≡ FUNCTORS) × (length held.old ≡ SYMBOLS) }
-    ensures exact { of_question (length text.now) result table.new held.new ≡ question edition_one text.now }
-    ensures within { WithinArrays result }
+// The whole text, with its arities and its words.
+pub fn read_whole(text: &[u8], arities: &mut Arities, words: &mut Words) -> Result<Counts, Refusal>
+    ensures exact { of_question (length text.now) result arities.new.items words.new.items ≡ question edition_one text.now }
+    ensures counted { Counted result arities.new.items words.new.items }
 {
-    let head = read_header(text, table)?;
-    let got = read_equations(
-        text,
-        head.end,
-        head.equations,
-        head.unknowns,
-        &table[..head.functors],
-        held,
-    )?;
+    let head = read_header(text, arities)?;
+    let declared = Declared {
+        unknowns: head.unknowns,
+        arities: &*arities,
+    };
+    words.clear();
+    read_equations(text, head.end, head.equations, &declared, words)?;
     Ok(Counts {
         unknowns: head.unknowns,
-        functors: head.functors,
+        functors: arities.len(),
         equations: head.equations,
-        words: got.count,
+        words: words.len(),
     })
 }

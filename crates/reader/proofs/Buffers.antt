@@ -1,16 +1,14 @@
 -- The entry's answer and its buffers: a question that fits is laid out, and a refusal leaves both buffers alone.
 use Prim.Native.Nat.{ℕ, ◌≤◌, ◌<◌}
-use native.Mathlib.Omega.{arith}
 use mathlib.Core.Path.{◌≡◌, sym, ◌∙◌}
 use mathlib.Core.List.{List, ◌++◌}
 use borrow.Author.Tests.{lt-ltb, le-ltb}
-use lib.ListN.{length, take, drop}
-use lib.Seq.{length-take-le}
-use Rattle.terms.specs.Bounds.{Bounds, edition_one, FUNCTORS, SYMBOLS}
+use lib.ListN.{length, drop}
+use Rattle.terms.specs.Bounds.{Bounds, edition_one}
 use Rattle.terms.specs.declared.refusal.Cause.TheVariants.{Buffer}
 use Rattle.terms.specs.declared.refusal.Refusal.{Refusal}
 use Rattle.numerals.specs.TextReading.{read, refused, then-read, then-refused}
-use Rattle.question_reader.specs.Questions.{Asked, question, of_question, WithinArrays}
+use Rattle.question_reader.specs.Questions.{Asked, question, of_question, Counted}
 use Rattle.reader.specs.LentBuffers.{fitted, question_into, answer, laid, arities_of, words_of, ReadGives}
 use Rattle.results.specs.declared.read.Counts.{Counts}
 use Rattle.std.proofs.Common.{Result, Ok, Err}
@@ -46,32 +44,22 @@ module _ (b : Bounds) (s ns ws : List ℕ) where
           let z : question_into b (length ns) (length ws) s ≡ read p q = then-read _ e ∙ rw (le-ltb (length ns) (length (arities_of q)) h, le-ltb (length ws) (length (words_of q)) k) in
           record { told_back = rw z; arities_laid = rw z; words_laid = rw z }
 
--- ---- as the code has it: the text was read into a table and a row of words, whose first parts are laid out
+-- ---- as the code has it: the text was read into a table and a row of words, which are laid out
 
 module _ (s ns ws : List ℕ) where
   pub whole-refused : (f : Refusal) → refused f ≡ question edition_one s → Gives edition_one s ns ws (Err f) ns ws
   whole-refused f e = gives_refusal edition_one s ns ws f (sym e)
 
-  module _ (table held : List ℕ) (c : Counts) (e : of_question (length s) (Ok c) table held ≡ question edition_one s)
-      (long : length table ≡ FUNCTORS) (wide : length held ≡ SYMBOLS) (C : WithinArrays (Ok c)) where
-    table_length : length (take c.functors table) ≡ c.functors
-    table_length = length-take-le c.functors table (omega (arith, C.0))
-
-    held-length : length (take c.words held) ≡ c.words
-    held-length = length-take-le c.words held (omega (arith, C.1))
-
-    abbrev it : Asked
-    it = record { head = record { unknowns = c.unknowns; arities = take c.functors table; equations = c.equations }; words = take c.words held }
-
-    is_it : question edition_one s ≡ read (length s) it
+  module _ (table held : List ℕ) (c : Counts) (e : of_question (length s) (Ok c) table held ≡ question edition_one s) (C : Counted (Ok c) table held) where
+    is_it : question edition_one s ≡ read (length s) (record { head = record { unknowns = c.unknowns; arities = table; equations = c.equations }; words = held })
     is_it = sym e
 
     pub table_too_long : length ns < c.functors → Gives edition_one s ns ws (Err (record { cause = Buffer; place = c.functors })) ns ws
-    table_too_long h = rw table_length at (few_arities edition_one s ns ws (length s) it is_it (rw table_length h))
+    table_too_long h = rw (← C.0) at (few_arities edition_one s ns ws _ _ is_it (rw C.0 at h))
 
     pub held_too_long : c.functors ≤ length ns → length ws < c.words → Gives edition_one s ns ws (Err (record { cause = Buffer; place = c.words })) ns ws
-    held_too_long f h = rw held-length at (few_words edition_one s ns ws (length s) it is_it (rw table_length f) (rw held-length h))
+    held_too_long f h = rw (← C.1) at (few_words edition_one s ns ws _ _ is_it (rw C.0 at f) (rw C.1 at h))
 
     pub all_laid : c.functors ≤ length ns → c.words ≤ length ws
-        → Gives edition_one s ns ws (Ok c) (take c.functors table ++ drop c.functors ns) (take c.words held ++ drop c.words ws)
-    all_laid f h = rw (table_length, held-length) at (gives_question edition_one s ns ws (length s) it is_it (rw table_length f) (rw held-length h))
+        → Gives edition_one s ns ws (Ok c) (table ++ drop c.functors ns) (held ++ drop c.words ws)
+    all_laid f h = rw (← C.0, ← C.1) at (gives_question edition_one s ns ws _ _ is_it (rw C.0 at f) (rw C.1 at h))

@@ -3,15 +3,15 @@ use Prim.Native.Nat.{ℕ, zero, suc, ◌+◌, ◌-◌, ◌*◌, ◌≤◌, ◌<�
 use native.Mathlib.Omega.{arith}
 use mathlib.Core.Path.{◌≡◌, sym, ◌∙◌}
 use mathlib.Core.List.{List}
-use lib.ListN.{length, take}
+use lib.ListN.{length}
 use Rattle.terms.specs.Bounds.{edition_one, NESTING}
 use Rattle.terms.specs.declared.refusal.Refusal.{Refusal}
 use Rattle.numerals.specs.TextReading.{Reading, read, refused, and_then, then-read, then-refused}
 use Rattle.items.specs.Items.{Coming, due, done, beginning, after}
-use Rattle.term_reader.specs.Terms.{follow, term, list, term_step, list_step, of_got}
+use Rattle.term_reader.specs.Terms.{follow, term, list, term_step, list_step}
 use Rattle.term_reader.specs.ReadingPlaces.{where_on, beginning_placed, after_placed, term_placed}
 use Rattle.items.specs.declared.item.Item.{Item}
-use Rattle.term_reader.specs.declared.term.Got.{Got}
+use Rattle.numerals.specs.Bytes.{of_met}
 use Rattle.std.proofs.Common.{Result, Ok, Err}
 use Rattle.term_reader.specs.ReadingAnswers.{TermRead, TermIs}
 
@@ -22,15 +22,15 @@ fueled P f (suc fuel) h = f fuel h
 
 module _ (s : List ℕ) (unknowns : ℕ) (arities : List ℕ) (depth : ℕ) where
   -- the answer g, with the words l, is that of the list at p after the words ws
-  abbrev pub ListRead : Item → ℕ → List ℕ → Result Got Refusal → List ℕ → Type 0
-  ListRead i p ws g l = (fuel : ℕ) → 2 * (length s - p) + 1 < fuel → of_got g l ≡ list edition_one s unknowns arities fuel depth i p ws
+  abbrev pub ListRead : Item → ℕ → List ℕ → Result ℕ Refusal → List ℕ → Type 0
+  ListRead i p ws g l = (fuel : ℕ) → 2 * (length s - p) + 1 < fuel → of_met l g ≡ list edition_one s unknowns arities fuel depth i p ws
 
   module _ (p : ℕ) (ws : List ℕ) where
     abbrev Begins : Reading Coming → Type 0
     Begins X = beginning edition_one s unknowns arities depth p ws ≡ X
 
-    abbrev IsTerm : Result Got Refusal → List ℕ → ℕ → Type 0
-    IsTerm g l fuel = of_got g l ≡ term edition_one s unknowns arities fuel depth p ws
+    abbrev IsTerm : Result ℕ Refusal → List ℕ → ℕ → Type 0
+    IsTerm g l fuel = of_met l g ≡ term edition_one s unknowns arities fuel depth p ws
 
     pub begun_due : (i : Item) (q : ℕ) (vs : List ℕ) → p ≤ length s → Begins (read q (due i vs)) → (p < q) × (q ≤ length s) × (depth < NESTING)
     unfolding edition_one
@@ -38,18 +38,18 @@ module _ (s : List ℕ) (unknowns : ℕ) (arities : List ℕ) (depth : ℕ) wher
         let w = where_on (rw B at (beginning_placed edition_one s unknowns arities depth p ws h)) in
         (omega (arith, w.0), w.1, w.2)
 
-    pub term_done : (q m : ℕ) (l : List ℕ) → Begins (read q (done (take m l))) → TermRead s unknowns arities depth p ws (Ok (record { at = q; count = m })) l
+    pub term_done : (q : ℕ) (l : List ℕ) → Begins (read q (done l)) → TermRead s unknowns arities depth p ws (Ok q) l
     unfolding follow
-    term_done q m l B =
-        fueled (IsTerm (Ok (record { at = q; count = m })) l) (λ fuel e. sym (term_step edition_one s unknowns arities fuel depth p ws ∙ then-read _ B))
+    term_done q l B =
+        fueled (IsTerm (Ok q) l) (λ fuel e. sym (term_step edition_one s unknowns arities fuel depth p ws ∙ then-read _ B))
 
     pub term_refused : (f : Refusal) (l : List ℕ) → Begins (refused f) → TermRead s unknowns arities depth p ws (Err f) l
     term_refused f l B =
         fueled (IsTerm (Err f) l) (λ fuel e. sym (term_step edition_one s unknowns arities fuel depth p ws ∙ then-refused _ B))
 
   module _ (i : Item) (p : ℕ) (ws : List ℕ) where
-    abbrev IsList : Result Got Refusal → List ℕ → ℕ → Type 0
-    IsList g l fuel = of_got g l ≡ list edition_one s unknowns arities fuel depth i p ws
+    abbrev IsList : Result ℕ Refusal → List ℕ → ℕ → Type 0
+    IsList g l fuel = of_met l g ≡ list edition_one s unknowns arities fuel depth i p ws
 
     pub list-stopped : (f : Refusal) (l : List ℕ) → TermIs s unknowns arities depth p ws (refused f) → ListRead i p ws (Err f) l
     list-stopped f l T =
@@ -76,23 +76,23 @@ module _ (s : List ℕ) (unknowns : ℕ) (arities : List ℕ) (depth : ℕ) wher
           → list edition_one s unknowns arities (suc fuel) depth i p ws ≡ and_then (after edition_one s i q vs) (follow (λ j r us. list edition_one s unknowns arities fuel depth j r us))
       list_is fuel e = list_step edition_one s unknowns arities fuel depth i p ws ∙ then-read _ (T fuel e)
 
-      pub list-more : (j : Item) (r : ℕ) (us : List ℕ) (g : Result Got Refusal) (l : List ℕ) → p ≤ length s → Follows (read r (due j us)) → ListRead j r us g l → ListRead i p ws g l
+      pub list-more : (j : Item) (r : ℕ) (us : List ℕ) (g : Result ℕ Refusal) (l : List ℕ) → p ≤ length s → Follows (read r (due j us)) → ListRead j r us g l → ListRead i p ws g l
       unfolding follow
       list-more j r us g l h F L =
           let w = next-ahead r (due j us) h F in
           fueled (IsList g l) (λ fuel e. L fuel (omega arith) ∙ sym (list_is fuel (omega arith) ∙ then-read _ F))
 
-      pub list_done : (r m : ℕ) (l : List ℕ) → Follows (read r (done (take m l))) → ListRead i p ws (Ok (record { at = r; count = m })) l
+      pub list_done : (r : ℕ) (l : List ℕ) → Follows (read r (done l)) → ListRead i p ws (Ok r) l
       unfolding follow
-      list_done r m l F =
-          fueled (IsList (Ok (record { at = r; count = m })) l) (λ fuel e. sym (list_is fuel (omega arith) ∙ then-read _ F))
+      list_done r l F =
+          fueled (IsList (Ok r) l) (λ fuel e. sym (list_is fuel (omega arith) ∙ then-read _ F))
 
       pub list-refused : (f : Refusal) (l : List ℕ) → Follows (refused f) → ListRead i p ws (Err f) l
       list-refused f l F =
           fueled (IsList (Err f) l) (λ fuel e. sym (list_is fuel (omega arith) ∙ then-refused _ F))
 
 -- a term's list is one bracket deeper
-pub term_list : (s : List ℕ) (unknowns : ℕ) (arities : List ℕ) (depth p : ℕ) (ws : List ℕ) (i : Item) (q : ℕ) (vs : List ℕ) (g : Result Got Refusal) (l : List ℕ)
+pub term_list : (s : List ℕ) (unknowns : ℕ) (arities : List ℕ) (depth p : ℕ) (ws : List ℕ) (i : Item) (q : ℕ) (vs : List ℕ) (g : Result ℕ Refusal) (l : List ℕ)
     → p ≤ length s → beginning edition_one s unknowns arities depth p ws ≡ read q (due i vs)
     → ListRead s unknowns arities (depth + 1) i q vs g l → TermRead s unknowns arities depth p ws g l
 unfolding follow

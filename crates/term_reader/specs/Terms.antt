@@ -1,14 +1,12 @@
 -- A term is read by its members and arguments, each of which is a term again. Twice the unread length is fuel enough for a term, and one
 -- more for a list: a list reads a term at its own place, and a term's list begins after its first byte.
-use Rattle.std.specs.Prelude.{ℕ, zero, suc, ◌+◌, ◌*◌, ◌≡◌, List, length, take, Result, Ok, Err}
+use Rattle.std.specs.Prelude.{ℕ, zero, suc, ◌+◌, ◌*◌, ◌≡◌, List, length}
 use Rattle.std.proofs.Math.Path.{refl}
 use Rattle.terms.specs.Bounds.{Bounds}
 use Rattle.terms.specs.declared.refusal.Cause.TheVariants.{Byte}
-use Rattle.terms.specs.declared.refusal.Refusal.{Refusal}
-use Rattle.numerals.specs.TextReading.{Reading, read, refused, fault, and_then}
+use Rattle.numerals.specs.TextReading.{Reading, read, fault, and_then}
 use Rattle.items.specs.Items.{Coming, due, done, beginning, after}
 use Rattle.items.specs.declared.item.Item.{Item}
-use Rattle.term_reader.specs.declared.term.Got.{Got}
 
 -- the list that is due, or the term as it ended
 unfoldable pub follow : (Item → ℕ → List ℕ → Reading (List ℕ)) → ℕ → Coming → Reading (List ℕ)
@@ -41,12 +39,3 @@ module _ (b : Bounds) (s : List ℕ) (unknowns : ℕ) (arities : List ℕ) where
 
   unfoldable pub whole_term : ℕ → List ℕ → Reading (List ℕ)
   whole_term p ws = term (suc (2 * length s)) 0 p ws
-
--- the same, of the code's answer, which counts the words that a list holds from its start
-abbrev pub of_got : Result Got Refusal → List ℕ → Reading (List ℕ)
-of_got (Ok g) l = read g.at (take g.count l)
-of_got (Err r) l = refused r
-
-abbrev pub count_of_got : Result Got Refusal → ℕ
-count_of_got (Ok g) = g.count
-count_of_got (Err r) = 0

@@ -1,71 +1,58 @@
 // Terms of a text: a term is read by its members and arguments, each of which is a term again.
 // The stack holds two calls for each open bracket, and at most 200 are open: members and arguments side by side are read by a loop.
-ghost use Rattle.std.specs.Prelude.{◌≡◌, ℕ, ◌+◌, ◌-◌, ◌*◌, ◌≤◌, ◌<◌, length, take};
-ghost use Rattle.terms.specs.Bounds.{edition_one, UNKNOWNS, FUNCTORS, SYMBOLS};
-ghost use Rattle.items.specs.Items.{Room};
-ghost use Rattle.term_reader.specs.Terms.{term, list, of_got, count_of_got};
+ghost use Rattle.std.specs.Prelude.{◌≡◌, ℕ, ◌+◌, ◌-◌, ◌*◌, ◌≤◌, ◌<◌, length};
+ghost use Rattle.terms.specs.Bounds.{edition_one};
+ghost use Rattle.numerals.specs.Bytes.{of_met};
+ghost use Rattle.term_reader.specs.Terms.{term, list};
 
 use beginnings::beginning::begin;
-use items::item::{Item, Next, pass};
+use beginnings::declared::Declared;
+use items::item::{Item, Next, Words, pass};
 use terms::refusal::Refusal;
 
-// Where reading goes on, and how many words there are; or arities, where they are read.
-#[derive(Clone, Copy)]
-pub struct Got {
-    pub at: usize,
-    pub count: usize,
-}
-
-// The term at `at`, with `depth` brackets open.
+// The term at `at`, with `depth` brackets open: where reading goes on after it.
 #[cycle(read_list_read_term)]
 pub fn read_term(
     text: &[u8],
     at: usize,
-    unknowns: usize,
-    arities: &[u8],
+    declared: &Declared<'_>,
     depth: usize,
-    words: &mut [u16],
-    n: usize,
-) -> Result<Got, Refusal>
-    requires { Room words.old n × (at ≤ length text.now) × (unknowns ≤ UNKNOWNS) × (length arities.now ≤ FUNCTORS) }
-    ensures exact { (fuel : ℕ) → 2 * (length text.now - at) < fuel → of_got result words.new ≡ term edition_one text.now unknowns arities.now fuel depth at (take n words.old) }
-    ensures within { count_of_got result ≤ SYMBOLS }
+    words: &mut Words,
+) -> Result<usize, Refusal>
+    requires { at ≤ length text.now }
+    ensures { (fuel : ℕ) → 2 * (length text.now - at) < fuel → of_met words.new.items result ≡ term edition_one text.now declared.now.unknowns declared.now.arities.now.items fuel depth at words.old.items }
 {
-    match begin(text, at, unknowns, arities, depth, words, n)? {
-        Next::Due(item, p, m) => read_list(text, p, unknowns, arities, depth + 1, item, words, m),
-        Next::Done(p, m) => Ok(Got { at: p, count: m }),
+    match begin(text, at, declared, depth, words)? {
+        Next::Due(item, p) => read_list(text, p, declared, depth + 1, item, words),
+        Next::Done(p) => Ok(p),
     }
 }
 
 // The item at `at`, and what follows it up to the closing bracket.
+// Kept: the loop ends where an item says so and counts no index, and a call in its place would take the stack of a long set's members.
 #[cycle(read_list_read_term)]
 fn read_list(
     text: &[u8],
     at: usize,
-    unknowns: usize,
-    arities: &[u8],
+    declared: &Declared<'_>,
     depth: usize,
     first: Item,
-    words: &mut [u16],
-    n: usize,
-) -> Result<Got, Refusal>
-    requires { Room words.old n × (at ≤ length text.now) × (unknowns ≤ UNKNOWNS) × (length arities.now ≤ FUNCTORS) }
-    ensures exact { (fuel : ℕ) → 2 * (length text.now - at) + 1 < fuel → of_got result words.new ≡ list edition_one text.now unknowns arities.now fuel depth first at (take n words.old) }
-    ensures within { count_of_got result ≤ SYMBOLS }
+    words: &mut Words,
+) -> Result<usize, Refusal>
+    requires { at ≤ length text.now }
+    ensures { (fuel : ℕ) → 2 * (length text.now - at) + 1 < fuel → of_met words.new.items result ≡ list edition_one text.now declared.now.unknowns declared.now.arities.now.items fuel depth first at words.old.items }
 {
     let mut item = first;
     let mut p = at;
-    let mut m = n;
     loop {
-        let got = read_term(text, p, unknowns, arities, depth, words, m)?;
-        match pass(text, got.at, item, words, got.count)? {
-            Next::Due(i, r, l) => {
+        let end = read_term(text, p, declared, depth, words)?;
+        match pass(text, end, item, words)? {
+            Next::Due(i, q) => {
                 item = i;
-                p = r;
-                m = l;
+                p = q;
             }
-            Next::Done(r, l) => {
-                return Ok(Got { at: r, count: l });
+            Next::Done(q) => {
+                return Ok(q);
             }
         }
     }

@@ -1,12 +1,15 @@
 -- `begins_term`: each answer is one case of `begins`.
-use Rattle.items.proofs.FirstByte.{begins-x, begins-f, begins-last}
+use mathlib.Core.Path.{ap, ◌∙◌}
+use Rattle.items.specs.Items.{begins}
+use Rattle.items.proofs.FirstByte.{begins-one, begins-none}
 use Rattle.items.proofs.item.begins_term.Goals as goal
 
-pub returns-then-b-eq-UNKNOWN : goal.returns-then-b-eq-UNKNOWN
-returns-then-b-eq-UNKNOWN c = begins-x _ c.if-b-eq-UNKNOWN.true
+pub returns-in-Some-eq120 : goal.returns-in-Some-eq120
+returns-in-Some-eq120 c = rw c.in-Some-eq120.is (begins-one _ c.in-Some-eq120.field-0-test ∙ ap begins c.in-Some-eq120.field-0-is)
 
-pub returns-then-b-eq-FUNCTOR : goal.returns-then-b-eq-FUNCTOR
-returns-then-b-eq-FUNCTOR c = begins-f _ c.if-b-eq-UNKNOWN.false c.if-b-eq-FUNCTOR.true
+pub returns-in_default : goal.returns-in_default
+returns-in_default c = rw c.in_default.is (begins-none _ c.in_default.field-0-test.1 ∙ ap begins c.in_default.field-0-is)
 
-pub returns : goal.returns
-returns c = begins-last _ c.if-b-eq-UNKNOWN.false c.if-b-eq-FUNCTOR.false
+pub returns-in_default-2 : goal.returns-in_default-2
+unfolding begins
+returns-in_default-2 c = rw c.in_default.is

@@ -1,10 +1,10 @@
--- `end_empty`: the empty set's word is stored, or the words are full.
-use native.Mathlib.Omega.{arith}
+-- `end_empty`: the empty set's word is added, or the words are full.
+use borrow.Author.Rules.{rules}
 use Rattle.items.proofs.WordsSoFar.{empty_closed, empty_full}
 use Rattle.items.proofs.item.end_empty.Goals as goal
 
-pub returns-then-n-lt-SYMBOLS : goal.returns-then-n-lt-SYMBOLS
-returns-then-n-lt-SYMBOLS c = record { exact = empty_closed c.requires.0 _ c.if-n-lt-SYMBOLS.true; within = omega arith }
+pub returns-then-is_full : goal.returns-then-is_full
+returns-then-is_full c = empty_full _ _ (search rules)
 
 pub returns : goal.returns
-returns c = record { exact = empty_full c.requires.0 _ c.if-n-lt-SYMBOLS.false; within = omega arith }
+returns c = rw c.push.ensures.items (empty_closed _ _ (search rules))

@@ -5,22 +5,30 @@ use Rattle.items.proofs.AfterItem.{after_argument_many, after_argument-more, aft
 use Rattle.items.proofs.item.pass_argument.Goals as goal
 
 pub returns-then-left-eq0 : goal.returns-then-left-eq0
-returns-then-left-eq0 c = record { exact = λ l. after_argument_many _ _ c.peek-b.ensures _ _ c.if-b-eq-COMMA.true c.if-left-eq0.true; within = omega arith }
+returns-then-left-eq0 c = λ ws. after_argument_many _ _ c.in-Some-eq44.ensures _ _ c.in-Some-eq44.field-0-test c.if-left-eq0.true
 
 pub overflow_add-result : goal.overflow_add-result
-overflow_add-result c = omega (arith, found _ _ c.peek-b.ensures (omega arith))
+overflow_add-result c = omega (arith, found _ _ c.in-Some-eq44.ensures (omega arith))
 
-pub returns-then-b-eq-COMMA : goal.returns-then-b-eq-COMMA
-returns-then-b-eq-COMMA c = record { exact = λ l. after_argument-more _ _ c.peek-b.ensures _ _ c.if-b-eq-COMMA.true c.if-left-eq0.false; within = omega arith }
+pub returns-else-left-eq0 : goal.returns-else-left-eq0
+returns-else-left-eq0 c = λ ws. after_argument-more _ _ c.in-Some-eq44.ensures _ _ c.in-Some-eq44.field-0-test c.if-left-eq0.false
 
 pub overflow_add-result-then-left-eq0-2 : goal.overflow_add-result-then-left-eq0-2
-overflow_add-result-then-left-eq0-2 c = omega (arith, found _ _ c.peek-b.ensures (omega arith))
+overflow_add-result-then-left-eq0-2 c = omega (arith, found _ _ c.in-Some-eq41.ensures (omega arith))
 
 pub returns-then-left-eq0-2 : goal.returns-then-left-eq0-2
-returns-then-left-eq0-2 c = record { exact = λ l. after_argument_close _ _ c.peek-b.ensures _ _ c.if-b-eq-COMMA.false c.if-b-eq-ARGUMENTS_CLOSE.true c.if-left-eq0-2.true; within = omega arith }
+returns-then-left-eq0-2 c =
+    λ ws. after_argument_close _ _ c.in-Some-eq41.ensures _ _ (λ z. absurd (omega arith)) c.in-Some-eq41.field-0-test c.if-left-eq0-2.true
 
-pub returns-then-b-eq-ARGUMENTS_CLOSE : goal.returns-then-b-eq-ARGUMENTS_CLOSE
-returns-then-b-eq-ARGUMENTS_CLOSE c = record { exact = λ l. after_argument_few _ _ c.peek-b.ensures _ _ c.if-b-eq-COMMA.false c.if-b-eq-ARGUMENTS_CLOSE.true c.if-left-eq0-2.false; within = omega arith }
+pub returns-else-left-eq0-2 : goal.returns-else-left-eq0-2
+returns-else-left-eq0-2 c =
+    λ ws. after_argument_few _ _ c.in-Some-eq41.ensures _ _ (λ z. absurd (omega arith)) c.in-Some-eq41.field-0-test c.if-left-eq0-2.false
 
-pub returns : goal.returns
-returns c = record { exact = λ l. after_argument_none _ _ c.peek-b.ensures _ _ c.if-b-eq-COMMA.false c.if-b-eq-ARGUMENTS_CLOSE.false; within = omega arith }
+pub returns-in_default : goal.returns-in_default
+returns-in_default c =
+    let t = c.in_default.field-0-test in
+    λ ws. after_argument_none _ _ c.in_default.ensures _ _ t.0.1 t.1
+
+pub returns-in_default-2 : goal.returns-in_default-2
+returns-in_default-2 c =
+    λ ws. after_argument_none _ _ (rw c.in_default.is at c.peek.ensures) _ _ (λ z. absurd (omega arith)) (λ z. absurd (omega arith))

@@ -1,13 +1,18 @@
 -- `digit_of`: each answer is one case of `digit`.
-use mathlib.Core.Path.{sym}
-use Rattle.numerals.specs.Numbers.{digit-below, digit_value, digit-above}
+use native.Mathlib.Omega.{arith}
+use mathlib.Core.Path.{sym, ◌∙◌}
+use Rattle.numerals.specs.Numbers.{digit, digit_value}
+use Rattle.numerals.proofs.DigitTests.{digit_none}
 use Rattle.numerals.proofs.number.digit_of.Goals as goal
 
-pub returns-then-b-lt48-clause-exact : goal.returns-then-b-lt48-clause-exact
-returns-then-b-lt48-clause-exact c = sym (digit-below _ c.if-b-lt48.true)
+pub returns-in_err-b-clause-exact : goal.returns-in_err-b-clause-exact
+unfolding digit
+returns-in_err-b-clause-exact c = rw (c.from_residual.ensures, c.in_err-b.was)
 
-pub returns-then-b-lt58-clause-exact : goal.returns-then-b-lt58-clause-exact
-returns-then-b-lt58-clause-exact c = sym (digit_value _ c.if-b-lt48.false c.if-b-lt58.true)
+pub returns-then-not-is_ascii_digit-clause-exact : goal.returns-then-not-is_ascii_digit-clause-exact
+returns-then-not-is_ascii_digit-clause-exact c = rw c.in_ok-b.was (digit_none _ c.if-not-is_ascii_digit.ensures.cases)
 
 pub returns-clause-exact : goal.returns-clause-exact
-returns-clause-exact c = sym (digit-above _ c.if-b-lt58.false)
+returns-clause-exact c =
+    let h = c.if-not-is_ascii_digit.ensures.cases in
+    c.from.ensures ∙ rw c.in_ok-b.was (sym (digit_value _ h.0 (omega (arith, h.1))))

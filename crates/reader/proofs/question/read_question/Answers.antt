@@ -10,16 +10,13 @@ returns-in_err-counts c =
 
 pub returns-then-arities-counts : goal.returns-then-arities-counts
 returns-then-arities-counts c =
-    table_too_long _ _ _ _ _ _ c.in_ok-counts.ensures.exact c.read_whole.auto.table c.read_whole.auto.held c.in_ok-counts.ensures.within
-    c.if-arities-counts.true
+    table_too_long _ _ _ _ _ _ c.in_ok-counts.ensures.exact c.in_ok-counts.ensures.counted c.if-arities-counts.true
 
 pub returns-then-words-counts : goal.returns-then-words-counts
 returns-then-words-counts c =
-    held_too_long _ _ _ _ _ _ c.in_ok-counts.ensures.exact c.read_whole.auto.table c.read_whole.auto.held c.in_ok-counts.ensures.within
-    c.if-arities-counts.false c.if-words-counts.true
+    held_too_long _ _ _ _ _ _ c.in_ok-counts.ensures.exact c.in_ok-counts.ensures.counted c.if-arities-counts.false c.if-words-counts.true
 
 pub returns : goal.returns
 returns c =
-    rw (c.copy_from_slice.ensures.after, c.copy_from_slice-2.ensures.after)
-    (all_laid _ _ _ _ _ _ c.in_ok-counts.ensures.exact c.read_whole.auto.table c.read_whole.auto.held c.in_ok-counts.ensures.within
-    c.if-arities-counts.false c.if-words-counts.false)
+    rw (c.copy_from_slice.ensures.after, c.copy_from_slice-2.ensures.after, c.as_slice.ensures.value, c.as_slice-2.ensures.value)
+    (all_laid _ _ _ _ _ _ c.in_ok-counts.ensures.exact c.in_ok-counts.ensures.counted c.if-arities-counts.false c.if-words-counts.false)
