@@ -84,6 +84,7 @@ fn put_end_line(text: &mut [u8], at: usize, end: End) -> usize
     put_byte(text, after, b'\n')
 }
 
+// Kept: `as u64`, since std has no `From` of `usize`, and `try_from` would add a refusal that never comes.
 fn put_list_header(end: End, visited: u64, answers: usize, text: &mut [u8], at: usize) -> usize
     ensures { Wrote text.old at (list_header (end_word end) visited answers) text.new result }
 {

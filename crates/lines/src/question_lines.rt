@@ -41,6 +41,7 @@ fn put_arities(text: &mut [u8], at: usize, arities: &[u8]) -> usize
     put_byte(text, end, b'\n')
 }
 
+// Kept: `as u64`, since std has no `From` of `usize`, and `try_from` would add a refusal that never comes.
 fn put_header(
     unknowns: usize,
     arities: &[u8],

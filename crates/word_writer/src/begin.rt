@@ -26,10 +26,7 @@ pub fn symbol_of(arities: &[u8], word: u16) -> Symbol
         Kind::Member => Symbol::Adding,
         Kind::Unknown(i) => Symbol::Unknown(i),
         Kind::Functor(k) => {
-            if (k as usize) < arities.len() {
-                return Symbol::Functor(k, arities[k as usize]);
-            }
-            Symbol::Functor(k, 0)
+            Symbol::Functor(k, arities.get(usize::from(k)).copied().unwrap_or(0))
         }
         Kind::Nothing => Symbol::Empty,
     }

@@ -86,6 +86,7 @@ impl<const N: usize> Brackets<N> {
         ensures closes { self.new ≡ closed self.old }
     {
         let mut next = at;
+        // Kept: no `for`, since what is due in a bracket tells whether the next is looked at, and each that closes is taken off the value.
         while let Some(due) = self.innermost() {
             match due {
                 Bracket::Member => {
