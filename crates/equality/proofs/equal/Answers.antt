@@ -1,14 +1,13 @@
-use mathlib.Core.Path.{◌∙◌, sym}
+use Rattle.std.proofs.lemmas.Result.{err_from_is_err_and}
 use Rattle.equality.specs.Answering.{equality_after, equal_answer}
 use Rattle.equality.proofs.equal.Goals as goal
 
-pub both_equal-requires : goal.both_equal-requires
-both_equal-requires c = sym c.check_row.ensures ∙ c.in-Ok.is
-
-pub returns-in-Fine : goal.returns-in-Fine
+pub returns-in_err-check_row : goal.returns-in_err-check_row
 unfolding equal_answer equality_after
-returns-in-Fine c = rw (← c.check_row.ensures, c.in-Fine.is, ← c.both_equal.ensures)
+returns-in_err-check_row c =
+    let p = err_from_is_err_and c.from_residual.result c.from_residual.ensures.1 in
+    rw (p.1, p.2, ← c.check_row.ensures, c.in_err-check_row.was)
 
-pub returns-in-Err : goal.returns-in-Err
+pub returns : goal.returns
 unfolding equal_answer equality_after
-returns-in-Err c = rw (← c.check_row.ensures, c.in-Err.is)
+returns c = rw (← c.check_row.ensures, c.in_ok-check_row.was, ← c.both_equal.ensures)
