@@ -3,82 +3,63 @@ ghost use Rattle.search.specs.Ends.{end_word};
 ghost use Rattle.terms.specs.Bounds.{edition_one};
 ghost use Rattle.text.specs.Keys.{end_key};
 ghost use Rattle.text.specs.Text.{line};
-ghost use Rattle.lines.specs.Lines.{repeat};
 ghost use Rattle.lines.specs.ListLines.{binding_at, answer_at, list_header, list_lines};
 ghost use Rattle.word_writer.specs.Pen.{Wrote};
 ghost use Rattle.word_writer.specs.WordByWord.{Passed};
 
+use crate::each::{Thing, write_each};
 use crate::line::{put_number_line, write_term_line};
 use search::ends::End;
 use word_writer::put::{Passage, TooDeep, put_byte, put_bytes};
 
-// The binding that begins at the word `from`.
-fn write_binding(
-    arities: &[u8],
-    words: &[u16],
-    from: usize,
-    text: &mut [u8],
-    at: usize,
-) -> Result<Passage, TooDeep>
-    ensures { Passed text.old at (binding_at edition_one arities.now words.now from) result text.new }
-{
-    if from < words.len() {
-        let next = put_number_line(text, at, &text::UNKNOWN, u64::from(words[from]));
-        return write_term_line(arities, words, from + 1, &text::VALUE, text, next);
+// A binding: the number of its unknown, and its value.
+struct Binding;
+
+impl Thing for Binding {
+    ghost thing_at = { binding_at edition_one };
+
+    fn write(
+        arities: &[u8],
+        words: &[u16],
+        from: usize,
+        text: &mut [u8],
+        at: usize,
+    ) -> Result<Passage, TooDeep> {
+        if from < words.len() {
+            let next = put_number_line(text, at, &text::UNKNOWN, u64::from(words[from]));
+            return write_term_line(arities, words, from + 1, &text::VALUE, text, next);
+        }
+        Ok(Passage { word: from, at })
     }
-    Ok(Passage { word: from, at })
 }
 
-// So many bindings from the word `from` on.
-fn write_bindings(
-    arities: &[u8],
-    words: &[u16],
-    bindings: usize,
-    from: usize,
-    text: &mut [u8],
-    at: usize,
-) -> Result<Passage, TooDeep>
-    ensures { Passed text.old at (repeat (binding_at edition_one arities.now words.now) bindings from) result text.new }
-{
-    let mut passage = Passage { word: from, at };
-    for _ in 0..bindings {
-        passage = write_binding(arities, words, passage.word, text, passage.at)?;
-    }
-    Ok(passage)
-}
+// An answer: how many bindings it has, and the bindings.
+struct Answer;
 
-// The answer that begins at the word `from`.
-fn write_answer(
-    arities: &[u8],
-    words: &[u16],
-    from: usize,
-    text: &mut [u8],
-    at: usize,
-) -> Result<Passage, TooDeep>
-    ensures { Passed text.old at (answer_at edition_one arities.now words.now from) result text.new }
-{
-    if from < words.len() {
-        let bindings = words[from];
-        let next = put_number_line(text, at, &text::BINDINGS, u64::from(bindings));
-        return write_bindings(arities, words, usize::from(bindings), from + 1, text, next);
-    }
-    Ok(Passage { word: from, at })
-}
+impl Thing for Answer {
+    ghost thing_at = { answer_at edition_one };
 
-fn write_answers_due(
-    arities: &[u8],
-    words: &[u16],
-    answers: usize,
-    text: &mut [u8],
-    at: usize,
-) -> Result<Passage, TooDeep>
-    ensures { Passed text.old at (repeat (answer_at edition_one arities.now words.now) answers 0) result text.new }
-{
-    let mut passage = Passage { word: 0, at };
-    for _ in 0..answers {
-        passage = write_answer(arities, words, passage.word, text, passage.at)?;
+    fn write(
+        arities: &[u8],
+        words: &[u16],
+        from: usize,
+        text: &mut [u8],
+        at: usize,
+    ) -> Result<Passage, TooDeep> {
+        if from < words.len() {
+            let bindings = words[from];
+            let next = put_number_line(text, at, &text::BINDINGS, u64::from(bindings));
+            return write_each::<Binding>(
+                arities,
+                words,
+                usize::from(bindings),
+                from + 1,
+                text,
+                next,
+            );
+        }
+        Ok(Passage { word: from, at })
     }
-    Ok(passage)
 }
 
 // The end's word.
@@ -103,6 +84,7 @@ fn put_end_line(text: &mut [u8], at: usize, end: End) -> usize
     put_byte(text, after, b'\n')
 }
 
+// Kept: `as u64`, since std has no `From` of `usize`, and `try_from` would add a refusal that never comes.
 fn put_list_header(end: End, visited: u64, answers: usize, text: &mut [u8], at: usize) -> usize
     ensures { Wrote text.old at (list_header (end_word end) visited answers) text.new result }
 {
@@ -123,5 +105,5 @@ pub fn write_list(
     ensures { Passed text.old 0 (list_lines edition_one (end_word end) arities.now visited answers words.now) result text.new }
 {
     let first = put_list_header(end, visited, answers, text, 0);
-    write_answers_due(arities, words, answers, text, first)
+    write_each::<Answer>(arities, words, answers, 0, text, first)
 }

@@ -2,10 +2,11 @@
 ghost use Rattle.terms.specs.Bounds.{edition_one};
 ghost use Rattle.text.specs.Keys.{arities_key};
 ghost use Rattle.text.specs.Text.{numbers, further_numbers, line};
-ghost use Rattle.lines.specs.Lines.{repeat, equation_at, header, question_lines};
+ghost use Rattle.lines.specs.Lines.{equation_at, header, question_lines};
 ghost use Rattle.word_writer.specs.Pen.{Wrote};
 ghost use Rattle.word_writer.specs.WordByWord.{Passed};
 
+use crate::each::{Thing, write_each};
 use crate::line::{put_number_line, write_term_line};
 use word_writer::put::{Passage, TooDeep, put_byte, put_bytes, put_number};
 
@@ -40,6 +41,7 @@ fn put_arities(text: &mut [u8], at: usize, arities: &[u8]) -> usize
     put_byte(text, end, b'\n')
 }
 
+// Kept: `as u64`, since std has no `From` of `usize`, and `try_from` would add a refusal that never comes.
 fn put_header(
     unknowns: usize,
     arities: &[u8],
@@ -55,34 +57,22 @@ fn put_header(
     put_number_line(text, fourth, &text::EQUATIONS, equations as u64)
 }
 
-// The equation whose left side begins at the word `from`.
-fn write_equation(
-    arities: &[u8],
-    words: &[u16],
-    from: usize,
-    text: &mut [u8],
-    at: usize,
-) -> Result<Passage, TooDeep>
-    ensures { Passed text.old at (equation_at edition_one arities.now words.now from) result text.new }
-{
-    let left = write_term_line(arities, words, from, &text::LEFT, text, at)?;
-    write_term_line(arities, words, left.word, &text::RIGHT, text, left.at)
-}
+// An equation: its sides.
+struct Equation;
 
-fn write_equations(
-    arities: &[u8],
-    words: &[u16],
-    equations: usize,
-    text: &mut [u8],
-    at: usize,
-) -> Result<Passage, TooDeep>
-    ensures { Passed text.old at (repeat (equation_at edition_one arities.now words.now) equations 0) result text.new }
-{
-    let mut passage = Passage { word: 0, at };
-    for _ in 0..equations {
-        passage = write_equation(arities, words, passage.word, text, passage.at)?;
+impl Thing for Equation {
+    ghost thing_at = { equation_at edition_one };
+
+    fn write(
+        arities: &[u8],
+        words: &[u16],
+        from: usize,
+        text: &mut [u8],
+        at: usize,
+    ) -> Result<Passage, TooDeep> {
+        let left = write_term_line(arities, words, from, &text::LEFT, text, at)?;
+        write_term_line(arities, words, left.word, &text::RIGHT, text, left.at)
     }
-    Ok(passage)
 }
 
 pub fn write_lines(
@@ -95,5 +85,5 @@ pub fn write_lines(
     ensures { Passed text.old 0 (question_lines edition_one unknowns arities.now equations words.now) result text.new }
 {
     let first = put_header(unknowns, arities, equations, text, 0);
-    write_equations(arities, words, equations, text, first)
+    write_each::<Equation>(arities, words, equations, 0, text, first)
 }

@@ -16,6 +16,7 @@ use terms::refusal::{Refusal, number_of};
 pub const OUTPUT: usize = 65536;
 
 // The two lines of a refusal.
+// Kept: `as u64`, since std has no `From` of `usize`, and `try_from` would add a refusal that never comes.
 pub fn print_refusal(refusal: Refusal, output: &mut [u8]) -> usize
     requires { 64 ≤ length output.old }
     ensures { Prints (printed (refused refusal)) result output.old output.new }
@@ -27,6 +28,7 @@ pub fn print_refusal(refusal: Refusal, output: &mut [u8]) -> usize
 }
 
 // The text of a run's answers, or the lines of its writer's refusal.
+// Kept: `as usize`, since a `usize` holds every `u64`, and `try_from` would add a refusal that never comes.
 pub fn print_list(arities: &[u8], ending: Ending, words: &[u16], output: &mut [u8]) -> usize
     requires { length output.old ≡ OUTPUT }
     ensures { Prints (printed (of_list arities.now ending words.now)) result output.old output.new }

@@ -1,5 +1,5 @@
 -- The brackets that are open while a term is written, the innermost first; what a finished term closes; the stack that holds them in the code, the innermost last.
-use Rattle.std.specs.Prelude.{ℕ, zero, suc, ◌≤◌, ◌≡◌, List, [], ◌∷◌, length, get_or}
+use Rattle.std.specs.Prelude.{ℕ, zero, suc, List, [], ◌∷◌, get_or, Option, Some, None}
 use Rattle.word_writer.specs.declared.bracket.Bracket.{Bracket}
 use Rattle.word_writer.specs.declared.bracket.Bracket.TheVariants.{Member, Rest, Tail, Arguments}
 
@@ -21,11 +21,12 @@ closed (Tail ∷ bs) = closed bs
 closed (Arguments zero ∷ bs) = closed bs
 closed (Arguments (suc n) ∷ bs) = Arguments n ∷ bs
 
+-- what is due in the innermost bracket, where one is open
+unfoldable pub innermost : List Bracket → Option Bracket
+innermost [] = None
+innermost (due ∷ bs) = Some due
+
 -- the first d brackets of the code's stack, where the innermost is the last
 unfoldable pub brackets : List Bracket → ℕ → List Bracket
 brackets stack zero = []
 brackets stack (suc d) = get_or stack d Member ∷ brackets stack d
-
-pub record Holds (stack : List Bracket) (depth : ℕ) (bs : List Bracket) : Type 0 where
-  pub depth_in : depth ≤ length stack
-  pub are : brackets stack depth ≡ bs

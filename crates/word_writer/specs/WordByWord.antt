@@ -6,13 +6,12 @@ use Rattle.terms.specs.Kind.{kind}
 use Rattle.terms.specs.declared.kind.Kind.{Kind}
 use Rattle.terms.specs.declared.kind.Kind.TheVariants as kinds
 use Rattle.text.specs.Text.{choose, unknown_name, functor_name}
-use Rattle.word_writer.specs.OpenBrackets.{closing, closed, Holds}
+use Rattle.word_writer.specs.OpenBrackets.{closing, closed}
 use Rattle.word_writer.specs.declared.bracket.Bracket.{Bracket}
 use Rattle.word_writer.specs.declared.bracket.Bracket.TheVariants.{Member, Rest, Tail, Arguments}
 use Rattle.word_writer.specs.Pen.{Wrote}
 use Rattle.word_writer.specs.declared.begin.Symbol.{Symbol}
 use Rattle.word_writer.specs.declared.begin.Symbol.TheVariants.{Empty, Adding, Unknown, Functor}
-use Rattle.word_writer.specs.declared.bracket.Pen.{Pen}
 use Rattle.word_writer.specs.declared.put.Passage.{Passage}
 use Rattle.word_writer.specs.declared.put.TooDeep.{TooDeep}
 
@@ -96,10 +95,9 @@ term_at b arities ws p = walk b arities p (drop p ws) []
 
 -- ---- what the code owes for each
 
-pub data Stepped (text₀ : List ℕ) (at : ℕ) : Writes → Option Pen → List Bracket → List ℕ → Type 0 where
-  went_on : {bytes : List ℕ} {bs : List Bracket} {pen : Pen} {stack : List Bracket} {text : List ℕ} → Wrote text₀ at bytes text pen.at → Holds stack pen.depth bs
-      → Stepped text₀ at (writes bytes bs) (Some pen) stack text
-  was_deep : {stack : List Bracket} {text : List ℕ} → Stepped text₀ at deep None stack text
+pub data Stepped (text₀ : List ℕ) (at : ℕ) : Writes → Option ℕ → List Bracket → List ℕ → Type 0 where
+  went_on : {bytes : List ℕ} {bs : List Bracket} {next : ℕ} {text : List ℕ} → Wrote text₀ at bytes text next → Stepped text₀ at (writes bytes bs) (Some next) bs text
+  was_deep : {bs : List Bracket} {text : List ℕ} → Stepped text₀ at deep None bs text
 
 pub data Passed (text₀ : List ℕ) (at : ℕ) : Walk → Result Passage TooDeep → List ℕ → Type 0 where
   was_ended : {passage : Passage} {bytes text : List ℕ} → Wrote text₀ at bytes text passage.at → Passed text₀ at (ended passage.word bytes) (Ok passage) text

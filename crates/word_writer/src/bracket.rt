@@ -1,9 +1,11 @@
-// The brackets that are open while a term is written, the innermost last, and what is due in each.
-ghost use Rattle.std.specs.Prelude.{◌≤◌, length};
+// The brackets that are open while a term is written, the innermost last.
+ghost use Rattle.std.specs.Prelude.{[], ◌∷◌, ◌≡◌, ◌<◌, length, drop};
 ghost use Rattle.word_writer.specs.Pen.{Wrote};
-ghost use Rattle.word_writer.specs.OpenBrackets.{brackets, closed, closing, Holds};
+ghost use Rattle.word_writer.specs.OpenBrackets.{closed, closing, innermost};
+ghost use Rattle.word_writer.specs.WordByWord.{opens, Stepped};
 
 use crate::put::put_byte;
+use std::marker::Model;
 
 // An open bracket, by what is due in it.
 #[derive(Clone, Copy)]
@@ -18,40 +20,89 @@ pub enum Bracket {
     Arguments(u8),
 }
 
-// How many brackets are open, and the place of the next byte.
-#[derive(Clone, Copy)]
-pub struct Pen {
-    pub depth: usize,
-    pub at: usize,
+// At most `N` brackets that are open.
+#[derive(Drop)]
+pub struct Brackets<const N: usize> {
+    held: [Bracket; N],
+    depth: usize,
 }
 
-// A term is written: the brackets that it closes, and the comma before a further argument.
-pub fn close(stack: &mut [Bracket], pen: Pen, text: &mut [u8]) -> Pen
-    requires { pen.depth ≤ length stack.old }
-    ensures wrote { Wrote text.old pen.at (closing (brackets stack.old pen.depth)) text.new result.at }
-    ensures holds { Holds stack.new result.depth (closed (brackets stack.old pen.depth)) }
-{
-    let mut at = pen.at;
-    let mut depth = pen.depth;
-    // Kept: counted down by hand. Over `(0..depth).rev()` each return would have to say one more than the counter, for as many brackets are open.
-    while 0 < depth {
-        match stack[depth - 1] {
-            Bracket::Member => {
-                stack[depth - 1] = Bracket::Rest;
-                return Pen { depth, at };
-            }
-            Bracket::Rest => return Pen { depth, at },
-            Bracket::Tail => at = put_byte(text, at, b'}'),
-            Bracket::Arguments(more) => {
-                if 0 < more {
-                    stack[depth - 1] = Bracket::Arguments(more - 1);
-                    at = put_byte(text, at, b',');
-                    return Pen { depth, at };
-                }
-                at = put_byte(text, at, b')');
-            }
+// Clauses see what is due in each, the innermost first.
+impl<const N: usize> Model for Brackets<N> {
+    ghost use Rattle.std.specs.Prelude.{List, ◌≤◌};
+    ghost use Rattle.word_writer.specs.declared.bracket.Bracket.{Bracket};
+    ghost use Rattle.word_writer.specs.OpenBrackets.{brackets};
+
+    ghost Value = { List Bracket };
+
+    ghost view = { λ b. brackets b.held b.depth };
+
+    ghost invariant = { λ b. b.depth ≤ N };
+}
+
+impl<const N: usize> Brackets<N> {
+    pub fn new() -> Self
+        ensures { result ≡ [] }
+    {
+        Brackets {
+            held: [Bracket::Rest; N],
+            depth: 0,
         }
-        depth -= 1;
     }
-    Pen { depth, at }
+
+    // What is due in the innermost.
+    pub fn innermost(&self) -> Option<Bracket>
+        ensures { result ≡ innermost self.now }
+    {
+        if self.depth == 0 {
+            return None;
+        }
+        Some(self.held[self.depth - 1])
+    }
+
+    // In the innermost this is due from now on.
+    pub fn change(&mut self, due: Bracket)
+        requires { 0 < length self.old }
+        ensures { self.new ≡ due ∷ drop 1 self.old }
+    {
+        self.held[self.depth - 1] = due;
+    }
+
+    // One bracket more, in which this is due; or none, where it would be one too many.
+    pub fn open(&mut self, due: Bracket, text: &mut [u8], at: usize, byte: u8) -> Option<usize>
+        ensures { Stepped text.old at (opens N (byte ∷ []) due self.old) result self.new text.new }
+    {
+        if N <= self.depth {
+            return None;
+        }
+        self.held[self.depth] = due;
+        self.depth += 1;
+        Some(put_byte(text, at, byte))
+    }
+
+    // A term is written: the brackets that it closes, and the comma before a further argument.
+    pub fn close(&mut self, text: &mut [u8], at: usize) -> usize
+        ensures wrote { Wrote text.old at (closing self.old) text.new result }
+        ensures closes { self.new ≡ closed self.old }
+    {
+        let mut next = at;
+        // Kept: no `for`, since what is due in a bracket tells whether the next is looked at, and each that closes is taken off the value.
+        while let Some(due) = self.innermost() {
+            match due {
+                Bracket::Member => {
+                    self.change(Bracket::Rest);
+                    return next;
+                }
+                Bracket::Rest => return next,
+                Bracket::Tail => next = put_byte(text, next, b'}'),
+                Bracket::Arguments(0) => next = put_byte(text, next, b')'),
+                Bracket::Arguments(more) => {
+                    self.change(Bracket::Arguments(more - 1));
+                    return put_byte(text, next, b',');
+                }
+            }
+            self.depth -= 1;
+        }
+        next
+    }
 }

@@ -8,6 +8,7 @@ ghost use Rattle.word_writer.specs.Pen.{Wrote};
 use terms::refusal::{Cause, Refusal};
 
 // Where writing words came to: all words before this one are written, and this is the next byte's place.
+// Kept: a type of its own beside the readers' pairs of numbers, for their fields tell other things: no reader has a place of a word and one of a byte.
 #[derive(Clone, Copy)]
 pub struct Passage {
     pub word: usize,
@@ -52,17 +53,20 @@ pub fn put_bytes(text: &mut [u8], at: usize, bytes: &[u8]) -> usize
 }
 
 // Plain decimal.
+// Kept: by hand. Over the `Buffer` of `itoa` a question takes 9 % longer to write, and an answer list 12 %: nearly all numbers here have one digit.
+// Kept: a digit is told as a byte by `as`; std's `u8::try_from` would add a refusal that never comes.
 pub fn put_number(text: &mut [u8], at: usize, number: u64) -> usize
     ensures { Wrote text.old at (decimal number) text.new result }
 {
     if number < 10 {
-        return put_byte(text, at, 48 + number as u8);
+        return put_byte(text, at, b'0' + number as u8);
     }
     let next = put_number(text, at, number / 10);
-    put_byte(text, next, 48 + (number % 10) as u8)
+    put_byte(text, next, b'0' + (number % 10) as u8)
 }
 
 // A name: its letter and its number.
+// Kept: beside `put_part` of `case_lines`, which writes a number first and a byte after it.
 pub fn put_name(text: &mut [u8], at: usize, letter: u8, number: u64) -> usize
     ensures { Wrote text.old at (letter ∷ decimal number) text.new result }
 {

@@ -4,4 +4,4 @@ use Rattle.lines.proofs.list_lines.write_list.Goals as goal
 
 pub returns : goal.returns
 unfolding list_lines
-returns c = passed_after c.put_list_header-first.ensures c.write_answers_due.ensures
+returns c = passed_after c.put_list_header-first.ensures c.write_each.ensures

@@ -3,7 +3,7 @@ use mathlib.Core.Path.{refl}
 use Rattle.lines.specs.ListLines.{binding_at}
 use Rattle.lines.proofs.Lined.{numbered, numbered_not}
 use borrow.Author.Rules.{rules}
-use Rattle.lines.proofs.list_lines.write_binding.Goals as goal
+use Rattle.lines.proofs.list_lines.BindingThing.write.Goals as goal
 
 pub returns-then-from-words : goal.returns-then-from-words
 unfolding binding_at

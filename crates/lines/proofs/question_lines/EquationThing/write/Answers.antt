@@ -1,7 +1,7 @@
 use Rattle.std.proofs.lemmas.Result.{err_from_is_err_and}
 use Rattle.lines.specs.Lines.{equation_at}
 use Rattle.word_writer.specs.Passages.{passed_then, passed_stop}
-use Rattle.lines.proofs.question_lines.write_equation.Goals as goal
+use Rattle.lines.proofs.question_lines.EquationThing.write.Goals as goal
 
 pub returns-in_err-left : goal.returns-in_err-left
 unfolding equation_at
