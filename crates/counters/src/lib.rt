@@ -15,7 +15,7 @@ pub fn count_nodes(counts: &mut Record, nodes: u64)
     requires { counts.old.visited + nodes < 2 ^ 64 }
     ensures { counts.new ≡ counted counts.old nodes }
 {
-    counts.visited += nodes;
+    counts.visited = counts.visited + nodes;
 }
 
 // An answer of so many words more is listed.
@@ -23,8 +23,8 @@ pub fn note_answer(counts: &mut Record, n: usize)
     requires { (counts.old.answers + 1 < 2 ^ 64) × (counts.old.words + n < 2 ^ 64) }
     ensures { counts.new ≡ noted counts.old n }
 {
-    counts.answers += 1;
-    counts.words += n;
+    counts.answers = counts.answers + 1;
+    counts.words = counts.words + n;
 }
 
 // The record by value, with so many nodes more.
