@@ -12,6 +12,7 @@ use numerals::number::{Numeral, read_between};
 use terms::bounds;
 use terms::refusal::{Cause, Refusal};
 
+// Kept: a `const` item's value can't call `usize::from`, and in a `let` of `read_numbers` it would be no plainer.
 const ARITY: usize = bounds::ARITY as usize;
 
 // A line: its key, a number between two limits, and LF.
@@ -41,6 +42,7 @@ fn read_numbers(text: &[u8], at: usize, arities: &mut Arities) -> Result<usize, 
     let mut p = at;
     for _ in 0..bounds::FUNCTORS {
         let read = read_between(text, p, 0, ARITY)?;
+        // Kept: `read_between` shows that the value fits, and `u8::try_from` would bring an error that can't come.
         arities.push(read.value as u8);
         match peek(text, read.end) {
             Some(bytes::LINE_FEED) => {
@@ -75,7 +77,8 @@ fn read_arities(text: &[u8], at: usize, arities: &mut Arities) -> Result<usize, 
     read_numbers(text, p, arities)
 }
 
-// What the header says, and where reading goes on after it.
+// What the header says beside the arities, and where reading goes on after it.
+// Kept: other structs hold three numbers, too, but no header of a text, so one struct for all would be no plainer.
 #[derive(Clone, Copy)]
 pub struct Heading {
     pub unknowns: usize,

@@ -7,6 +7,7 @@ use crate::bytes::peek;
 use terms::refusal::{Cause, Refusal};
 
 // A number that was read, and where reading goes on after it.
+// Kept: other structs hold two numbers, too, but no value with its end in a text, so one struct for all would be no plainer.
 #[derive(Clone, Copy)]
 pub struct Numeral {
     pub value: usize,
