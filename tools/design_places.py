@@ -169,7 +169,9 @@ def read(root):
             if function.name in ("smaller", "larger"):
                 add(4, "least and largest by hand", place(function.start, function.end))
             if len(function.parameters) >= MANY:
-                add(5, f"functions of {MANY} or more parameters", place(function.start, function.end, f"fn {function.name}, {len(function.parameters)}"))
+                one = place(function.start, function.end, f"fn {function.name}, {len(function.parameters)}")
+                one.kept = "// Kept:" in comment_at(lines, line_of(text, function.start)) or "// Kept:" in comment_at(lines, 1)
+                add(5, f"functions of {MANY} or more parameters", one)
             for first, second in zip(function.parameters, function.parameters[1:]):
                 if USED.match(first) and second.split(":")[0] in LENGTHS and second.endswith("usize"):
                     add(6, "a buffer with its length beside", place(function.start, function.end, f"fn {function.name}: {first}, {second}"))

@@ -1,5 +1,6 @@
 // A binding of x to a term, whose words stand somewhere in the room: what a child's row has after its new equations. A function answers None where its
 // words do not fit.
+// Kept: places, sizes and the next unknown's number are passed apart. As records they cost the run a quarter of its speed (docs/DECISIONS.md).
 ghost use Rattle.std.specs.Prelude.{◌+◌, ◌-◌, ◌≤◌, ◌++◌, length};
 ghost use Rattle.terms.specs.Bounds.{edition_one, FIRST_UNKNOWN};
 ghost use Rattle.rows.specs.Wrote.{Wrote};
@@ -135,6 +136,7 @@ pub fn finish_pile(
 }
 
 // A child's row, of whose body the new equations are written, so many words: the rest of the parent's row with x bound to the m words at `by`.
+#[inline(always)]
 pub fn finish(
     arities: &[u8],
     room: &mut [u16],

@@ -1,4 +1,5 @@
 // A step that binds nothing: the rest of the parent's row as it is, with one entry more at the end of its pile, or none.
+// Kept: places, sizes and the next unknown's number are passed apart. As records they cost the run a quarter of its speed (docs/DECISIONS.md).
 ghost use Rattle.terms.specs.Bounds.{FIRST_UNKNOWN};
 ghost use Rattle.rows.specs.Wrote.{Wrote};
 ghost use Rattle.rows.specs.Bind.{BindParts, FinishParts};

@@ -1,4 +1,5 @@
 // The pile's entries: those of an unknown, and the others, with the unknown replaced.
+// Kept: places, sizes and the next unknown's number are passed apart. As records they cost the run a quarter of its speed (docs/DECISIONS.md).
 ghost use Rattle.std.specs.Prelude.{◌≡◌, ◌<◌, ◌^◌, length};
 ghost use Rattle.room.specs.Room.{seg};
 ghost use Rattle.room.specs.Parts.{ReplaceParts};

@@ -1,5 +1,6 @@
 // The children of a row from a number on, by the kind of the row: dead ends are passed, and the first child that is none is written to the next row.
 // Crate `only_child` has the rows without a choice, and `openings` the splits.
+// Kept: places, sizes and the next unknown's number are passed apart. As records they cost the run a quarter of its speed (docs/DECISIONS.md).
 #![tactic(auto)]
 
 ghost use Rattle.std.specs.Prelude.{◌≡◌, true, ℕ, ◌+◌, Some};

@@ -1,4 +1,5 @@
 // The new equations of a child's picks, with an unknown replaced. A function answers how many words it writes, and None where they do not fit.
+// Kept: places, sizes and the next unknown's number are passed apart. As records they cost the run a quarter of its speed (docs/DECISIONS.md).
 ghost use Rattle.std.specs.Prelude.{◌++◌, ◌+◌, cond};
 ghost use Rattle.room.specs.Room.{seg};
 ghost use Rattle.room.specs.Replaced.{replaced};

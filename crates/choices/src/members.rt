@@ -9,6 +9,7 @@ use terms::kind::terms_after;
 
 // Notes the places of a set's member marks, and then of its kernel; answers how many members there are. The set begins at the place `first` of the
 // words at `body`, of which `end` are read; places are counted from there.
+// Kept: `as`, for a contract bounds the number, and `try_from` would bring an error that can't come.
 pub fn note_members(
     arities: &[u8],
     room: &mut [u16],

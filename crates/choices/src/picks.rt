@@ -4,6 +4,7 @@ ghost use Rattle.room.specs.Room.{seg};
 ghost use Rattle.choices.specs.Digits.{copies, Decoded, Advanced, DigitParts, PickParts};
 
 // Writes n digits of a number; answers what is left of the number.
+// Kept: `as`, for a contract bounds the number, and `try_from` would bring an error that can't come.
 fn digits_of(room: &mut [u16], number: usize, n: usize, radix: usize, to: usize) -> usize
     requires { DigitParts room.old n radix to }
     ensures { Decoded room.old to (copies n radix) number result room.new }
@@ -34,6 +35,7 @@ pub fn digits(
 }
 
 // The next digits after those that stand there, n of one radix; false where there are none, and all are 0 again.
+// Kept: `as`, for a contract bounds the number, and `try_from` would bring an error that can't come.
 fn advance_of(room: &mut [u16], n: usize, radix: usize, at: usize) -> bool
     requires { PickParts room.old n radix at }
     ensures { Advanced room.old at (copies n radix) (seg room.old at n) result room.new }

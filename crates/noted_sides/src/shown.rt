@@ -8,6 +8,7 @@ use choices::sides::Sides;
 use room::layout::HEADER;
 
 // Writes the numbers of members and of words.
+// Kept: `as`, for a contract bounds the number, and `try_from` would bring an error that can't come.
 pub fn show_sides(room: &mut [u16], sides: Sides, to: usize)
     requires { NumberParts room.old sides to }
     ensures { room.new ≡ put room.old to (numbers_of sides) }

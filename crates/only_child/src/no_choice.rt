@@ -1,4 +1,5 @@
 // A row whose first equation leaves no choice: its only child is the step that the equation calls for.
+// Kept: places, sizes and the next unknown's number are passed apart. As records they cost the run a quarter of its speed (docs/DECISIONS.md).
 ghost use Rattle.std.specs.Prelude.{List};
 ghost use Rattle.terms.specs.Formed.{Equation};
 ghost use Rattle.search.specs.State.{State};

@@ -1,4 +1,5 @@
 // A row in which nothing is pending: its only child is the pile joined, and with no pile it is an answer.
+// Kept: places, sizes and the next unknown's number are passed apart. As records they cost the run a quarter of its speed (docs/DECISIONS.md).
 ghost use Rattle.search.specs.State.{State};
 ghost use Rattle.only_child.specs.Next.{Kept};
 ghost use Rattle.only_child.specs.Quiet.{Quiet};

@@ -1,4 +1,5 @@
 // A split that is opened, and one that stands open and is gone on with.
+// Kept: places, sizes and the next unknown's number are passed apart. As records they cost the run a quarter of its speed (docs/DECISIONS.md).
 ghost use Rattle.std.specs.Prelude.{List, ℕ, ◌+◌};
 ghost use Rattle.terms.specs.Formed.{Equation};
 ghost use Rattle.search.specs.State.{State};

@@ -1,4 +1,5 @@
 // The children of a split from the one on whose picks stand in scratch: dead ends are passed, one choice of picks after the other.
+// Kept: places, sizes and the next unknown's number are passed apart. As records they cost the run a quarter of its speed (docs/DECISIONS.md).
 ghost use Rattle.choices.specs.OpenParent.{Parent};
 ghost use Rattle.pick_loop.specs.PicksInScratch.{Picks, PicksAt, Ended, EndedAt, Picked};
 

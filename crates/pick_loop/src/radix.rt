@@ -6,6 +6,7 @@ ghost use Rattle.pick_loop.specs.PicksInScratch.{left_open, right_open};
 use search::steps::Tails;
 
 // How many picks a t has: the m u's, and the right tail if it is an unknown.
+// Kept: beside `picks_of_u`: which tails are open differs, and each match says it.
 pub fn picks_of_t(tails: Tails, m: usize) -> usize
     requires { m < 65535 }
     ensures { result ≡ radix (right_open tails) m }

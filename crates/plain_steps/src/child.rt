@@ -1,4 +1,5 @@
 // The only child of a state whose first equation leaves no choice.
+// Kept: places, sizes and the next unknown's number are passed apart. As records they cost the run a quarter of its speed (docs/DECISIONS.md).
 ghost use Rattle.plain_steps.specs.OnlyStep.{StepAt, Taken};
 ghost use Rattle.plain_steps.specs.Plain.{of_plain};
 

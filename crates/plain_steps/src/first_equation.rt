@@ -1,4 +1,5 @@
 // Steps that leave no choice, and that no function of `bind` or `keep` is by itself: an equation is postponed, or replaced by its argument equations.
+// Kept: places, sizes and the next unknown's number are passed apart. As records they cost the run a quarter of its speed (docs/DECISIONS.md).
 ghost use Rattle.std.specs.Prelude.{◌≡◌, ◌++◌, length, ◌+◌};
 ghost use Rattle.room.specs.Room.{seg, put};
 ghost use Rattle.terms.specs.Bounds.{edition_one};

@@ -1,6 +1,7 @@
 // Words of a room copied with each word x replaced by other words of it, as far as a capacity goes.
 //
 // A client's contracts cite `specs/Fitting.antt`, and `Replaced` and `Parts` of `room`.
+// Kept: places, sizes and the next unknown's number are passed apart. As records they cost the run a quarter of its speed (docs/DECISIONS.md).
 #![tactic(auto)]
 
 ghost use Rattle.std.specs.Prelude.{◌≡◌};

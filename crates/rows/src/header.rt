@@ -15,6 +15,7 @@ pub struct Header {
 }
 
 // Writes a header, whose row has no child yet.
+// Kept: `as`, for a contract bounds the number, and `try_from` would bring an error that can't come.
 pub fn seal(room: &mut [u16], at: usize, header: Header)
     requires { Within room.old at HEADER × Small header }
     ensures { room.new ≡ put room.old at (header_of header) }

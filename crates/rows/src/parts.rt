@@ -3,6 +3,7 @@ ghost use Rattle.std.specs.Prelude.{◌≡◌};
 ghost use Rattle.rows.specs.Made.{of_sized};
 
 // What became of a due node.
+// Kept: four outcomes, as `becomes` and `Makes` of specs/Row have them; an `Option` of three of them would be taken apart twice in each.
 #[derive(Clone, Copy)]
 pub enum Made {
     Dead,
@@ -15,6 +16,7 @@ pub enum Made {
 }
 
 // What became of a due node that is no dead end.
+// Kept: the three that are told of a node that is met; `only_child::next::reached` makes it of `Made`.
 #[derive(Clone, Copy)]
 pub enum Reached {
     Names,

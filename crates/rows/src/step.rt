@@ -10,6 +10,7 @@ use terms::kind::is_unknown;
 use walks::occurrence::{Occurrence, find_unknown};
 
 // The word at a place, or 0 past the end.
+// Kept: 0, as `get_or words place 0` says, which the definitions of a step read.
 pub fn word_at(words: &[u16], place: usize) -> u16
     ensures { result ≡ get_or words.now place 0 }
 {

@@ -87,6 +87,7 @@ fn run_within(
 
 // A run: the limits are tested, then the question, then the room. Its end and numbers come back, and the answer words begin with the answers listed; or a
 // refusal, and every lent word is as it was.
+// Kept: the parameters are what docs/SPECIFICATION.md (8.6) lists as lent, one by one.
 pub fn run(
     unknowns: usize,
     arities: &[u8],

@@ -1,4 +1,5 @@
 // A child of a split whose tails are different unknowns: s is bound to {U|N}, then r to {T|N}, with N new.
+// Kept: places, sizes and the next unknown's number are passed apart. As records they cost the run a quarter of its speed (docs/DECISIONS.md).
 ghost use Rattle.std.specs.Prelude.{◌≡◌, ◌||◌, ◌&&◌};
 ghost use Rattle.rows.specs.Terms.HeldWords.{holds};
 ghost use Rattle.rows.specs.Made.{of_sized};

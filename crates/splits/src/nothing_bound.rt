@@ -1,6 +1,7 @@
 // A child of a split that binds nothing: neither tail is an unknown, or both are the same.
 //
 // Kept: `neither` and `same` both begin with one call of `equations`, and then write different words; what they share is that call alone.
+// Kept: places, sizes and the next unknown's number are passed apart. As records they cost the run a quarter of its speed (docs/DECISIONS.md).
 ghost use Rattle.search.specs.declared.steps.Tails.TheVariants.{Neither, Same};
 ghost use Rattle.rows.specs.Wrote.{Wrote};
 ghost use Rattle.rows.specs.Made.{of_sized};

@@ -1,4 +1,5 @@
 // A child of a split, by the kind of its two tails.
+// Kept: places, sizes and the next unknown's number are passed apart. As records they cost the run a quarter of its speed (docs/DECISIONS.md).
 ghost use Rattle.tails.specs.Due.{ChildParts, ChildMade};
 
 use crate::different::different;

@@ -1,4 +1,5 @@
 // A child of a split that binds an unknown: its new equations, then the rest of its parent's row.
+// Kept: places, sizes and the next unknown's number are passed apart. As records they cost the run a quarter of its speed (docs/DECISIONS.md).
 ghost use Rattle.rows.specs.Made.{of_sized};
 ghost use Rattle.tails.specs.Bound.{BoundMade, TailMade, BoundParts};
 

@@ -1,4 +1,5 @@
 // A child of a split of which one tail is an unknown: it is bound to the other tail with the members that joined it.
+// Kept: places, sizes and the next unknown's number are passed apart. As records they cost the run a quarter of its speed (docs/DECISIONS.md).
 ghost use Rattle.std.specs.Prelude.{◌≡◌, ◌+◌, ◌≤◌, length, get_or};
 ghost use Rattle.room.specs.Room.{put};
 ghost use Rattle.tails.specs.Value.{value_piece, ValueParts};

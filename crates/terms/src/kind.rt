@@ -50,6 +50,7 @@ pub fn terms_after(arities: &[u8], word: u16) -> u8
 }
 
 // The word of unknown i, and the number of the unknown that has a word.
+// Kept: `as`, for a contract bounds the number, and `try_from` would bring an error that can't come.
 pub fn unknown_word(i: usize) -> u16
     requires { i < UNKNOWN_WORDS }
     ensures { result ≡ FIRST_UNKNOWN + i }
@@ -65,6 +66,7 @@ pub fn unknown_number(word: u16) -> u16
 }
 
 // The word of functor k.
+// Kept: `as`, for a contract bounds the number, and `try_from` would bring an error that can't come.
 pub fn functor_word(k: usize) -> u16
     requires { k < FUNCTOR_WORDS }
     ensures { result ≡ FIRST_FUNCTOR + k }
