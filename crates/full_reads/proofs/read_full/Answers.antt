@@ -15,9 +15,6 @@ read_after a k n xs ys within fits =
     let rest : take n (drop a whole) ≡ take n ys = ap (take n) (drop_at (take a xs) (ys ++ after) a (length-take-le a xs within)) ∙ take-append-le n ys after fits in
     sym (take-add a n whole ∙ ap (λ l. l ++ take n (drop a whole)) front ∙ ap (λ l. take a xs ++ l) rest)
 
-pub loop-filled-init : goal.loop-filled-init
-loop-filled-init g c = (search rules, search rules, Consumes-nil _)
-
 pub loop-filled-preserved : goal.loop-filled-preserved
 loop-filled-preserved g c =
     let filled = c.loop-filled.filled in
@@ -25,13 +22,3 @@ loop-filled-preserved g c =
     let room = length buffer - filled in
     let joined = read_after filled room c.in_ok-more.more buffer c.read.new.buf c.loop-filled.invariant.0 c.in_ok-more.ensures.bound.0 in
     (search rules, search rules, subst (Consumes _ _) joined (Consumes-trans _ _ _ _ _ c.loop-filled.invariant.2 c.in_ok-more.ensures.bytes.0))
-
-pub returns-then-more-eq0-clause-bytes : goal.returns-then-more-eq0-clause-bytes
-returns-then-more-eq0-clause-bytes g c =
-    let filled = c.loop-filled.filled in
-    let buffer = c.loop-filled.buffer in
-    let room = length buffer - filled in
-    let none : filled + c.in_ok-more.more ≡ filled = omega (arith, c.if-more-eq0.true) in
-    let joined = read_after filled room c.in_ok-more.more buffer c.read.new.buf c.loop-filled.invariant.0 c.in_ok-more.ensures.bound.0 in
-    subst (Consumes _ _) (joined ∙ ap (λ m. take m (put_mid filled room buffer c.read.new.buf)) none)
-    (Consumes-trans _ _ _ _ _ c.loop-filled.invariant.2 c.in_ok-more.ensures.bytes.0)

@@ -12,32 +12,11 @@ use Rattle.compare.proofs.Comparing.{kernels_fall, compare_kernels, kernels_no, 
 use Rattle.compare.proofs.compare.+compare_each_meets_kernels_meets_same.Goals as goal
 use Rattle.compare.proofs.compare.+compare_each_meets_kernels_meets_same.Goals.{meets-then-same, meets-else-same, compare-else-kernels-via-then-kernels+else-each_meets, compare-else-kernels-via-else-kernels}
 
--- ---- compare
-pub compare-kernel-k-requires : goal.compare-kernel-k-requires
-compare-kernel-k-requires t c = record { placed = c.requires.comparing.placed; known = c.requires.comparing.left }
-
-pub compare-kernel-l-requires : goal.compare-kernel-l-requires
-compare-kernel-l-requires t c = record { placed = c.requires.comparing.placed; known = c.requires.comparing.right }
-
 pub compare-kernels-requires : goal.compare-kernels-requires
 compare-kernels-requires t c =
     let k = c.kernel-k.ensures in
     let l = c.kernel-l.ensures in
     (omega (arith, c.decreases, kernels_fall k l), (compare_kernels c.requires.comparing k l, c.requires.settled))
-
-pub compare-each_meets-requires : goal.compare-each_meets-requires
-compare-each_meets-requires t c = (
-  omega (arith, c.decreases),
-  (
-    compare_members c.requires.comparing c.kernel-k.ensures c.kernel-l.ensures c.kernels.ensures,
-    settled-told c.requires.comparing.classes c.kernels.ensures c.requires.settled,
-  ),
-)
-
-pub compare-covers-requires : goal.compare-covers-requires
-compare-covers-requires t c =
-    compare_back c.requires.comparing c.kernel-k.ensures c.kernel-l.ensures c.kernels.ensures c.if-kernels.true
-    c.each_meets.ensures c.if-each_meets.true
 
 pub compare-returns-then-each_meets : goal.compare-returns-then-each_meets
 compare-returns-then-each_meets t c =
@@ -55,18 +34,6 @@ compare-returns t c =
           rw w.labels-is (kernels_no c.requires.comparing c.kernel-k.ensures c.kernel-l.ensures c.kernels.ensures w.if-kernels.false)
     ]
 
-pub each_meets-loop-x-init : goal.each_meets-loop-x-init
-each_meets-loop-x-init t c = matching_start c.requires.comparing
-
-pub each_meets-offset_bounds-held-x : goal.each_meets-offset_bounds-held-x
-each_meets-offset_bounds-held-x t c = let k = c.loop-x.invariant.at in omega arith
-
-pub each_meets-bounds-held-x : goal.each_meets-bounds-held-x
-each_meets-bounds-held-x t c = c.loop-x.invariant.at.inside
-
-pub each_meets-overflow_add-x : goal.each_meets-overflow_add-x
-each_meets-overflow_add-x t c = let o = matching_opened c.loop-x.invariant c.loop-x-test.true in omega arith
-
 pub each_meets-resolve-requires : goal.each_meets-resolve-requires
 each_meets-resolve-requires t c = let i = c.loop-x.invariant in resolvable i.placed _ (matching_opened i c.loop-x-test.true).next
 
@@ -76,9 +43,6 @@ each_meets-meets-requires t c =
     let i = c.loop-x.invariant in
     let e = c.loop-x-test.true in
     rw c.resolve.ensures (omega (arith, c.decreases, matching_falls i e), (matching_asks i e, settled_since i.since c.requires.settled))
-
-pub each_meets-rest-x-requires : goal.each_meets-rest-x-requires
-each_meets-rest-x-requires t c = matching_at c.loop-x.invariant c.loop-x-test.true
 
 pub each_meets-loop-x-smaller : goal.each_meets-loop-x-smaller
 each_meets-loop-x-smaller t c =
@@ -90,41 +54,17 @@ each_meets-loop-x-preserved t c =
     let m = rw c.resolve.ensures at c.meets.ensures in
     rw c.rest-x.ensures (matching_on c.loop-x.invariant c.loop-x-test.true m c.if-meets.true)
 
-pub each_meets-shape_of-labels-else-meets : goal.each_meets-shape_of-labels-else-meets
-each_meets-shape_of-labels-else-meets t c = c.meets.auto.labels ∙ since_length c.loop-x.invariant.since
-
 pub each_meets-returns-else-meets : goal.each_meets-returns-else-meets
 unfolding member_of
 each_meets-returns-else-meets t c =
     let m = rw c.resolve.ensures at c.meets.ensures in
     matching_no c.loop-x.invariant c.loop-x-test.true m c.if-meets.false
 
-pub each_meets-shape_of-labels : goal.each_meets-shape_of-labels
-each_meets-shape_of-labels t c = since_length c.loop-x.invariant.since
-
 pub each_meets-returns : goal.each_meets-returns
 each_meets-returns t c = matching_end c.loop-x.invariant c.loop-x-test.false
 
-pub kernels-offset_bounds-held-p : goal.kernels-offset_bounds-held-p
-kernels-offset_bounds-held-p t c = let k = c.requires.comparing_kernels.comparing.left in omega arith
-
-pub kernels-bounds-held-p : goal.kernels-bounds-held-p
-kernels-bounds-held-p t c = c.requires.comparing_kernels.comparing.left.inside
-
-pub kernels-offset_bounds-held-q : goal.kernels-offset_bounds-held-q
-kernels-offset_bounds-held-q t c = let k = c.requires.comparing_kernels.comparing.right in omega arith
-
-pub kernels-bounds-held-q : goal.kernels-bounds-held-q
-kernels-bounds-held-q t c = let a = c.requires.comparing_kernels.comparing in omega (arith, a.left.inside, a.right.inside)
-
 pub kernels-returns-then-word-held : goal.kernels-returns-then-word-held
 kernels-returns-then-word-held t c = arguing_differ c.requires.comparing_kernels c.if-word-held.true
-
-pub kernels-overflow_add-x : goal.kernels-overflow_add-x
-kernels-overflow_add-x t c = let k = c.requires.comparing_kernels.comparing.left in omega arith
-
-pub kernels-overflow_add-y : goal.kernels-overflow_add-y
-kernels-overflow_add-y t c = let k = c.requires.comparing_kernels.comparing.right in omega arith
 
 pub kernels-loop-init : goal.kernels-loop-init
 kernels-loop-init t c = arguing_start c.requires.comparing_kernels c.if-word-held.false (omega (arith, c.terms_after-due.ensures))
@@ -155,31 +95,13 @@ kernels-loop-preserved t c =
     let s = rw (c.resolve.ensures, c.resolve-in-loop.ensures) at c.same.ensures in
     rw (c.term_end-x.ensures, c.term_end-y.ensures) (arguing_on c.loop.invariant (omega arith) s c.if-same.true (omega arith))
 
-pub kernels-shape_of-labels-else-same : goal.kernels-shape_of-labels-else-same
-kernels-shape_of-labels-else-same t c = c.same.auto.labels ∙ since_length c.loop.invariant.since
-
 pub kernels-returns-else-same : goal.kernels-returns-else-same
 kernels-returns-else-same t c =
     let s = rw (c.resolve.ensures, c.resolve-in-loop.ensures) at c.same.ensures in
     arguing_no c.loop.invariant (omega arith) s c.if-same.false
 
-pub kernels-shape_of-labels : goal.kernels-shape_of-labels
-kernels-shape_of-labels t c = since_length c.loop.invariant.since
-
 pub kernels-returns : goal.kernels-returns
 kernels-returns t c = arguing_end c.loop.invariant (omega arith)
-
-pub meets-loop-y-init : goal.meets-loop-y-init
-meets-loop-y-init t c = meeting_start c.requires.comparing
-
-pub meets-offset_bounds-held-y : goal.meets-offset_bounds-held-y
-meets-offset_bounds-held-y t c = let k = c.loop-y.invariant.at in omega arith
-
-pub meets-bounds-held-y : goal.meets-bounds-held-y
-meets-bounds-held-y t c = c.loop-y.invariant.at.inside
-
-pub meets-overflow_add-y : goal.meets-overflow_add-y
-meets-overflow_add-y t c = let o = meeting_opened c.loop-y.invariant c.loop-y-test.true in omega arith
 
 pub meets-resolve-requires : goal.meets-resolve-requires
 meets-resolve-requires t c = let i = c.loop-y.invariant in resolvable i.placed _ (meeting_opened i c.loop-y-test.true).next
@@ -190,9 +112,6 @@ meets-same-requires t c =
     let i = c.loop-y.invariant in
     let e = c.loop-y-test.true in
     rw c.resolve.ensures (omega (arith, c.decreases, meeting_falls i e), (meeting_asks i e, settled_since i.since c.requires.settled))
-
-pub meets-rest-y-requires : goal.meets-rest-y-requires
-meets-rest-y-requires t c = meeting_at c.loop-y.invariant c.loop-y-test.true
 
 pub meets-loop-y-smaller : goal.meets-loop-y-smaller
 meets-loop-y-smaller t c =
@@ -208,62 +127,9 @@ meets-loop-y-preserved t c =
       | meets-else-same w ↦ rw w.met-is (meeting_no c.loop-y.invariant c.loop-y-test.true s w.if-same.false)
     ])
 
-pub meets-shape_of-labels : goal.meets-shape_of-labels
-meets-shape_of-labels t c = since_length c.loop-y.invariant.since
-
 pub meets-returns : goal.meets-returns
 meets-returns t c = meeting_end c.loop-y.invariant c.loop-y-test.false
-
--- ---- same
-pub same-offset_bounds-labels-p : goal.same-offset_bounds-labels-p
-same-offset_bounds-labels-p t c = let a = c.requires.comparing in omega (arith, a.classes.long, a.left.inside)
-
-pub same-bounds-labels-p : goal.same-bounds-labels-p
-same-bounds-labels-p t c = let a = c.requires.comparing in rw a.classes.long a.left.inside
-
-pub same-offset_bounds-labels-q : goal.same-offset_bounds-labels-q
-same-offset_bounds-labels-q t c = let a = c.requires.comparing in omega (arith, a.classes.long, a.right.inside)
-
-pub same-bounds-labels-q : goal.same-bounds-labels-q
-same-bounds-labels-q t c = let a = c.requires.comparing in rw a.classes.long a.right.inside
-
-pub same-returns-then-labels-p : goal.same-returns-then-labels-p
-same-returns-then-labels-p t c = same_label c.requires.comparing c.if-labels-p.true
-
-pub same-returns-then-both_settled : goal.same-returns-then-both_settled
-same-returns-then-both_settled t c =
-    settled_apart c.requires.comparing c.requires.settled c.both_settled.ensures c.if-both_settled.true c.if-labels-p.false
-
-pub same-compare-requires : goal.same-compare-requires
-same-compare-requires t c =
-    (omega (arith, c.decreases), (c.requires.comparing, c.requires.settled))
-
-pub same-offset_bounds-labels-p-then-compare : goal.same-offset_bounds-labels-p-then-compare
-same-offset_bounds-labels-p-then-compare t c =
-    let a = c.requires.comparing in omega (arith, c.compare.ensures.classes.long, a.left.inside)
-
-pub same-bounds-labels-p-then-compare : goal.same-bounds-labels-p-then-compare
-same-bounds-labels-p-then-compare t c =
-    let a = c.requires.comparing in rw c.compare.ensures.classes.long a.left.inside
-
-pub same-offset_bounds-labels-q-then-compare : goal.same-offset_bounds-labels-q-then-compare
-same-offset_bounds-labels-q-then-compare t c =
-    let a = c.requires.comparing in omega (arith, c.compare.ensures.classes.long, a.right.inside)
-
-pub same-bounds-labels-q-then-compare : goal.same-bounds-labels-q-then-compare
-same-bounds-labels-q-then-compare t c =
-    let a = c.requires.comparing in rw c.compare.ensures.classes.long a.right.inside
-
-pub same-shape_of-labels-then-compare : goal.same-shape_of-labels-then-compare
-same-shape_of-labels-then-compare t c = c.join.auto.labels ∙ c.compare.auto.labels
 
 pub same-returns-then-compare : goal.same-returns-then-compare
 same-returns-then-compare t c =
     now_same c.requires.comparing c.compare.ensures c.if-compare.true c.join.ensures
-
-pub same-shape_of-labels : goal.same-shape_of-labels
-same-shape_of-labels t c = c.compare.auto.labels
-
-pub same-returns : goal.same-returns
-same-returns t c =
-    not_same c.requires.comparing c.compare.ensures c.if-compare.false

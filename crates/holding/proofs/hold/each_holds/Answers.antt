@@ -4,9 +4,6 @@ use Rattle.term_places.specs.Opened.{resolvable}
 use Rattle.holding.proofs.Holds.{holds-start, holds-end, left_in, right_in, holds-asks, holds_no, holds_on}
 use Rattle.holding.proofs.hold.each_holds.Goals as goal
 
-pub loop-init : goal.loop-init
-loop-init c = holds-start c.requires.equations c.requires.all_settled (omega arith)
-
 pub term_end-right-requires : goal.term_end-right-requires
 term_end-right-requires c = let i = c.loop.invariant in record { unknowns = _; terms = i.placed.terms; inside = left_in i (omega arith) }
 
@@ -35,19 +32,12 @@ loop-preserved c =
     let s = rw (c.resolve.ensures, r) at c.same.ensures in
     rw (c.term_end-left.ensures, e) (holds_on c.loop.invariant (omega arith) s c.if-same.true (omega arith))
 
-pub shape_of-labels-else-same : goal.shape_of-labels-else-same
-shape_of-labels-else-same c =
-    c.same.auto.labels ∙ c.loop.invariant.classes.long ∙ sym c.requires.equations.long
-
 pub returns-else-same : goal.returns-else-same
 returns-else-same c =
     let e = c.term_end-right.ensures in
     let r = rw e at c.resolve-in-loop.ensures in
     let s = rw (c.resolve.ensures, r) at c.same.ensures in
     sym (holds_no c.loop.invariant (omega arith) s c.if-same.false)
-
-pub shape_of-labels : goal.shape_of-labels
-shape_of-labels c = c.loop.invariant.classes.long ∙ sym c.requires.equations.long
 
 pub returns : goal.returns
 returns c = sym (holds-end c.loop.invariant (omega arith))

@@ -2,9 +2,6 @@ use native.Mathlib.Omega.{arith}
 use Rattle.holding.proofs.Started.{placing_start, placing_end, placing_inside, placing_on}
 use Rattle.holding.proofs.hold.place_values.Goals as goal
 
-pub loop-start-init : goal.loop-start-init
-loop-start-init c = placing_start c.requires
-
 pub overflow_cast-start : goal.overflow_cast-start
 overflow_cast-start c =
     let w = placing_inside c.loop-start.invariant (omega (arith, c.loop-start.invariant.long)) in omega (arith, w.inside, c.requires.few)

@@ -4,15 +4,6 @@ use Rattle.term_places.specs.Arguments.{following}
 use Rattle.ranks.proofs.Ranking.{reckoning_start, reckoning_end, argument_in, resolved_in, reckoning_on}
 use Rattle.ranks.proofs.ranks.rank_of_functor.Goals as goal
 
-pub overflow_add-x : goal.overflow_add-x
-overflow_add-x c = let o = c.requires in omega (arith, o.known.inside)
-
-pub offset_bounds-held-p : goal.offset_bounds-held-p
-offset_bounds-held-p c = let o = c.requires in omega (arith, o.known.inside)
-
-pub bounds-held-p : goal.bounds-held-p
-bounds-held-p c = c.requires.known.inside
-
 pub loop-init : goal.loop-init
 unfolding following
 loop-init c = reckoning_start c.requires (omega (arith, c.terms_after-due.ensures))

@@ -6,18 +6,6 @@ use Rattle.term_places.specs.Membership.{rest_smaller}
 use Rattle.term_places.proofs.Scanning.{covering_start, covering_end, covering_opened, covering_at, covering_here, covering_on}
 use Rattle.term_places.proofs.scan.covered.Goals as goal
 
-pub loop-x-init : goal.loop-x-init
-loop-x-init c = covering_start c.requires
-
-pub offset_bounds-held-x : goal.offset_bounds-held-x
-offset_bounds-held-x c = let k = c.loop-x.invariant.walk.known in omega arith
-
-pub bounds-held-x : goal.bounds-held-x
-bounds-held-x c = c.loop-x.invariant.walk.known.inside
-
-pub overflow_add-x : goal.overflow_add-x
-overflow_add-x c = let o = covering_opened c.loop-x.invariant c.loop-x-test.true in omega arith
-
 pub resolve-requires : goal.resolve-requires
 resolve-requires c = let i = c.loop-x.invariant in resolvable i.compared.comparing.placed _ (covering_opened i c.loop-x-test.true).next
 
@@ -33,20 +21,11 @@ pub bounds-labels-resolve : goal.bounds-labels-resolve
 unfolding member_of
 bounds-labels-resolve c = let i = c.loop-x.invariant in rw (c.resolve.ensures, i.compared.comparing.classes.long) (covering_opened i c.loop-x-test.true).member.inside
 
-pub offset_bounds-labels-m : goal.offset_bounds-labels-m
-offset_bounds-labels-m c = let i = c.loop-x.invariant in let k = i.compared.comparing.right in let l = i.compared.comparing.classes.long in omega arith
-
-pub bounds-labels-m : goal.bounds-labels-m
-bounds-labels-m c = let i = c.loop-x.invariant in rw i.compared.comparing.classes.long i.compared.comparing.right.inside
-
 pub returns-then-labels-resolve : goal.returns-then-labels-resolve
 unfolding member_of
 returns-then-labels-resolve c =
     let invariant = c.loop-x.invariant in
     sym (covering_here invariant c.loop-x-test.true (rw c.resolve.ensures at c.if-labels-resolve.true))
-
-pub rest-x-requires : goal.rest-x-requires
-rest-x-requires c = covering_at c.loop-x.invariant c.loop-x-test.true
 
 pub loop-x-smaller : goal.loop-x-smaller
 loop-x-smaller c = rw c.rest-x.ensures (rest_smaller (covering_opened c.loop-x.invariant c.loop-x-test.true))

@@ -6,27 +6,12 @@ use Rattle.term_places.specs.Membership.{rest_smaller}
 use Rattle.term_places.proofs.Scanning.{scanning_start, scanning_end, scanning_opened, scanning_at, scanning_with, scanning_not, scanning_on}
 use Rattle.term_places.proofs.scan.covers.Goals as goal
 
-pub loop-y-init : goal.loop-y-init
-loop-y-init c = scanning_start c.requires
-
-pub offset_bounds-held-y : goal.offset_bounds-held-y
-offset_bounds-held-y c = let k = c.loop-y.invariant.walk.known in omega arith
-
-pub bounds-held-y : goal.bounds-held-y
-bounds-held-y c = c.loop-y.invariant.walk.known.inside
-
-pub overflow_add-y : goal.overflow_add-y
-overflow_add-y c = let o = scanning_opened c.loop-y.invariant c.loop-y-test.true in omega arith
-
 pub resolve-requires : goal.resolve-requires
 resolve-requires c = let i = c.loop-y.invariant in resolvable i.compared.comparing.placed _ (scanning_opened i c.loop-y-test.true).next
 
 pub covered-requires : goal.covered-requires
 unfolding member_of
 covered-requires c = rw c.resolve.ensures (scanning_with c.loop-y.invariant c.loop-y-test.true)
-
-pub rest-y-requires : goal.rest-y-requires
-rest-y-requires c = scanning_at c.loop-y.invariant c.loop-y-test.true
 
 pub loop-y-smaller : goal.loop-y-smaller
 loop-y-smaller c = rw c.rest-y.ensures (rest_smaller (scanning_opened c.loop-y.invariant c.loop-y-test.true))

@@ -32,9 +32,6 @@ loop-place-preserved c =
 pub returns-then-word-unknown-2 : goal.returns-then-word-unknown-2
 returns-then-word-unknown-2 c = sym (c.loop-place.invariant.0 ∙ rest_tail edition_one _ _ _ c.loop-place-test.true _ _ (omega arith) c.if-word-unknown-2.true)
 
-pub in_arguments-requires : goal.in_arguments-requires
-in_arguments-requires c = simp (length-take, length-drop) (omega arith)
-
 pub returns-then-word-ne-MEMBER : goal.returns-then-word-ne-MEMBER
 returns-then-word-ne-MEMBER c =
     let words = c.args.words.now in

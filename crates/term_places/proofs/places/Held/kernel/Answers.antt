@@ -4,18 +4,6 @@ use Rattle.term_places.specs.Opened.{opened, closed}
 use Rattle.term_places.specs.Membership.{kernel_open, rest_smaller}
 use Rattle.term_places.proofs.places.Held.kernel.Goals as goal
 
-pub loop-x-init : goal.loop-x-init
-loop-x-init c = (c.requires.known, refl)
-
-pub offset_bounds-self-x : goal.offset_bounds-self-x
-offset_bounds-self-x c = omega arith
-
-pub bounds-self-x : goal.bounds-self-x
-bounds-self-x c = c.loop-x.invariant.0.inside
-
-pub rest-x-requires : goal.rest-x-requires
-rest-x-requires c = record { placed = c.requires.placed; inside = c.loop-x.invariant.0.inside; member = c.loop-x-test.true }
-
 pub loop-x-smaller : goal.loop-x-smaller
 loop-x-smaller c =
     let o = opened c.requires.placed _ c.loop-x.invariant.0.inside c.loop-x-test.true in
