@@ -1,14 +1,13 @@
-use mathlib.Core.Path.{◌∙◌}
 use Prim.Native.Nat.{◌<◌, ◌-◌}
 use native.Mathlib.Omega.{arith}
 use Rattle.term_places.specs.Places.{member_of}
 use Rattle.term_places.specs.Opened.{resolvable}
 use Rattle.term_places.specs.Membership.{rest_smaller}
-use Rattle.term_places.specs.Since.{since_length, settled_since, settled-told}
-use Rattle.compare.proofs.Meeting.{meeting_start, meeting_end, meeting_opened, meeting_at, meeting_asks, meeting_falls, meeting_yes, meeting_no}
-use Rattle.compare.proofs.Matching.{matching_start, matching_end, matching_opened, matching_at, matching_asks, matching_falls, matching_on, matching_no}
+use Rattle.term_places.specs.Since.{settled_since}
+use Rattle.compare.proofs.Meeting.{meeting_end, meeting_opened, meeting_asks, meeting_falls, meeting_yes, meeting_no}
+use Rattle.compare.proofs.Matching.{matching_end, matching_opened, matching_asks, matching_falls, matching_on, matching_no}
 use Rattle.compare.proofs.Arguing.{arguing_differ, arguing_start, arguing_end, left_inside, right_inside, arguing_asks, arguing_falls, arguing_no, arguing_on}
-use Rattle.compare.proofs.Comparing.{kernels_fall, compare_kernels, kernels_no, compare_members, members_no, compare_back, compared, same_label, settled_apart, not_same, now_same}
+use Rattle.compare.proofs.Comparing.{kernels_fall, compare_kernels, kernels_no, members_no, compared, now_same}
 use Rattle.compare.proofs.compare.+compare_each_meets_kernels_meets_same.Goals as goal
 use Rattle.compare.proofs.compare.+compare_each_meets_kernels_meets_same.Goals.{meets-then-same, meets-else-same, compare-else-kernels-via-then-kernels+else-each_meets, compare-else-kernels-via-else-kernels}
 

@@ -1,5 +1,4 @@
 use mathlib.Core.Path.{refl}
-use native.Mathlib.Omega.{arith}
 use Rattle.holding.proofs.Holds.{none_settled, relabelled-equations}
 use Rattle.holding.proofs.hold.all_hold.Goals as goal
 

@@ -1,7 +1,7 @@
-use mathlib.Core.Path.{◌∙◌, sym}
+use mathlib.Core.Path.{sym}
 use native.Mathlib.Omega.{arith}
 use Rattle.term_places.specs.Opened.{resolvable}
-use Rattle.holding.proofs.Holds.{holds-start, holds-end, left_in, right_in, holds-asks, holds_no, holds_on}
+use Rattle.holding.proofs.Holds.{holds-end, left_in, right_in, holds-asks, holds_no, holds_on}
 use Rattle.holding.proofs.hold.each_holds.Goals as goal
 
 pub term_end-right-requires : goal.term_end-right-requires

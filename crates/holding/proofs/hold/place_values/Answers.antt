@@ -1,5 +1,5 @@
 use native.Mathlib.Omega.{arith}
-use Rattle.holding.proofs.Started.{placing_start, placing_end, placing_inside, placing_on}
+use Rattle.holding.proofs.Started.{placing_end, placing_inside, placing_on}
 use Rattle.holding.proofs.hold.place_values.Goals as goal
 
 pub overflow_cast-start : goal.overflow_cast-start

@@ -1,8 +1,6 @@
-use mathlib.Core.Path.{◌∙◌, sym}
+use mathlib.Core.Path.{◌∙◌}
 use native.Mathlib.Omega.{arith}
 use Rattle.term_places.specs.Relabelled.{each_its_own}
-use Rattle.ranks.specs.Ranked.{ranked_cleared}
-use Rattle.holding.proofs.Holds.{relabelled-equations}
 use Rattle.holding.proofs.hold.settled_in.Goals as goal
 
 pub settle-requires : goal.settle-requires

@@ -1,6 +1,5 @@
-use mathlib.Core.Path.{sym, ◌∙◌}
-use lib.Seq.{length-take-le}
-use Rattle.holding.proofs.Asking.{asked_standings, asked-within, asked-equations, asked-holding}
+use mathlib.Core.Path.{◌∙◌}
+use Rattle.holding.proofs.Asking.{asked_standings, asked-equations, asked-holding}
 use Rattle.holding.proofs.hold.values_hold.Goals as goal
 
 pub place_values-requires : goal.place_values-requires

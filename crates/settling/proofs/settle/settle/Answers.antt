@@ -1,5 +1,4 @@
-use mathlib.Core.Path.{◌∙◌, sym}
-use Rattle.settling.proofs.SettlingLoop.{going_start, going_past, going_settling, going_on}
+use Rattle.settling.proofs.SettlingLoop.{going_on}
 use Rattle.settling.proofs.settle.settle.Goals as goal
 
 pub loop-p-preserved-then-rank-lt-NONE : goal.loop-p-preserved-then-rank-lt-NONE

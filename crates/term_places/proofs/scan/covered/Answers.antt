@@ -3,7 +3,7 @@ use native.Mathlib.Omega.{arith}
 use Rattle.term_places.specs.Places.{member_of}
 use Rattle.term_places.specs.Opened.{resolvable}
 use Rattle.term_places.specs.Membership.{rest_smaller}
-use Rattle.term_places.proofs.Scanning.{covering_start, covering_end, covering_opened, covering_at, covering_here, covering_on}
+use Rattle.term_places.proofs.Scanning.{covering_end, covering_opened, covering_here, covering_on}
 use Rattle.term_places.proofs.scan.covered.Goals as goal
 
 pub resolve-requires : goal.resolve-requires

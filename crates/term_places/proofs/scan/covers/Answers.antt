@@ -1,9 +1,8 @@
 use mathlib.Core.Path.{◌∙◌, sym}
-use native.Mathlib.Omega.{arith}
 use Rattle.term_places.specs.Places.{member_of}
 use Rattle.term_places.specs.Opened.{resolvable}
 use Rattle.term_places.specs.Membership.{rest_smaller}
-use Rattle.term_places.proofs.Scanning.{scanning_start, scanning_end, scanning_opened, scanning_at, scanning_with, scanning_not, scanning_on}
+use Rattle.term_places.proofs.Scanning.{scanning_end, scanning_opened, scanning_with, scanning_not, scanning_on}
 use Rattle.term_places.proofs.scan.covers.Goals as goal
 
 pub resolve-requires : goal.resolve-requires

@@ -2,7 +2,6 @@ use mathlib.Core.Path.{sym, ◌∙◌}
 use Prim.Native.Nat.{◌+◌}
 use lib.ListN.{length}
 use native.Mathlib.Omega.{arith}
-use Rattle.std.proofs.Common.{length-take, length-drop}
 use Rattle.std.proofs.lemmas.Slice.{between_to_end}
 use Rattle.terms.specs.Bounds.{edition_one}
 use Rattle.walks.proofs.Walking.{rest-here, rest_step, rest_tail, rest_member, rest-arguments, rest_out}

@@ -1,5 +1,4 @@
-use mathlib.Core.Path.{◌∙◌, refl, sym}
-use native.Mathlib.Omega.{arith}
+use mathlib.Core.Path.{◌∙◌, sym}
 use Rattle.term_places.specs.Opened.{opened, closed}
 use Rattle.term_places.specs.Membership.{kernel_open, rest_smaller}
 use Rattle.term_places.proofs.places.Held.kernel.Goals as goal
