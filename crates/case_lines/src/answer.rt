@@ -31,12 +31,14 @@ pub enum Answer<'a> {
 // Kept: a page and a place go side by side here, as `put_byte`, `put_bytes` and `put_number` of crate `word_writer` take them, whose clauses `Wrote` name both.
 
 // A number and a separator.
+// Kept: beside `put_name` of `word_writer`, the other way round.
 fn put_part(page: &mut [u8], at: usize, number: u64, separator: u8) -> usize {
     let next = put_number(page, at, number);
     put_byte(page, next, separator)
 }
 
 // refused N P
+// Kept: `as`, for there is no `From` between `usize` and `u64`, and `try_from` would bring an error that can't come.
 fn put_refusal(page: &mut [u8], number: u32, place: usize) -> usize {
     let next = put_bytes(page, 0, b"refused ");
     let after = put_part(page, next, u64::from(number), b' ');
@@ -44,6 +46,7 @@ fn put_refusal(page: &mut [u8], number: u32, place: usize) -> usize {
 }
 
 // ok U|A|E|W
+// Kept: `as`, for there is no `From` between `usize` and `u64`, and `try_from` would bring an error that can't come.
 fn put_question(page: &mut [u8], question: Question) -> usize {
     let first = put_bytes(page, 0, b"ok ");
     let second = put_part(page, first, question.unknowns as u64, b'|');

@@ -69,6 +69,7 @@ fn number(line: &[u8], n: usize) -> Option<u64> {
 }
 
 // The fields 1 to 4.
+// Kept: `as`, for there is no `From` between `usize` and `u64`, and `try_from` would bring an error that can't come.
 fn question_of<'a>(
     line: &[u8],
     arities: &'a mut [u8],
@@ -83,6 +84,7 @@ fn question_of<'a>(
 }
 
 // The limits and the space, which begin at field n, and so much room.
+// Kept: `as`, for there is no `From` between `usize` and `u64`, and `try_from` would bring an error that can't come.
 fn loan_of(line: &[u8], n: usize, room: u64) -> Option<Loan>
     requires { n < 10 }
 {
@@ -97,6 +99,7 @@ fn loan_of(line: &[u8], n: usize, room: u64) -> Option<Loan>
 
 // The case of a line, by its first field and its count of TABs, if all fields are formed as they should be. Its lists go to the start of the arrays. A text is
 // read with all that there is, and a run of a text in all the room.
+// Kept: `as`, for there is no `From` between `usize` and `u64`, and `try_from` would bring an error that can't come.
 pub fn case_of<'a>(line: &[u8], lists: &'a mut Lists) -> Option<Case<'a>> {
     let Lists {
         text,

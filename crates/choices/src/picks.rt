@@ -36,6 +36,7 @@ pub fn digits(
 
 // The next digits after those that stand there, n of one radix; false where there are none, and all are 0 again.
 // Kept: `as`, for a contract bounds the number, and `try_from` would bring an error that can't come.
+// Kept: `n` is a number of digits inside the lent room, and no length of it.
 fn advance_of(room: &mut [u16], n: usize, radix: usize, at: usize) -> bool
     requires { PickParts room.old n radix at }
     ensures { Advanced room.old at (copies n radix) (seg room.old at n) result room.new }
@@ -52,6 +53,7 @@ fn advance_of(room: &mut [u16], n: usize, radix: usize, at: usize) -> bool
 }
 
 // The next picks, n of the first radix and m of the second.
+// Kept: `n` is a number of digits inside the lent room, and no length of it.
 pub fn advance(room: &mut [u16], n: usize, first: usize, m: usize, second: usize, at: usize) -> bool
     requires { PickParts room.old n first at × PickParts room.old m second (at + n) }
     ensures { Advanced room.old at (copies n first ++ copies m second) (seg room.old at (n + m)) result room.new }

@@ -81,6 +81,7 @@ fn each_meets(held: &Held, settled: &[u16], labels: &mut [u16], p: usize, q: usi
     ensures { EachMeets (of held.now) labels.old labels.new p q result }
 {
     let mut x = p;
+    // Kept: the rest of a set may stand at any place, so the walk ends where no member stands, and no `for` counts it.
     while held.words[x] == MEMBER {
         if meets(held, settled, labels, held.resolve(x + 1), q) {
             x = held.rest(x);
@@ -100,6 +101,7 @@ fn meets(held: &Held, settled: &[u16], labels: &mut [u16], m: usize, q: usize) -
 {
     let mut met = false;
     let mut y = q;
+    // Kept: the rest of a set may stand at any place, so the walk ends where no member stands, and no `for` counts it.
     while held.words[y] == MEMBER {
         if same(held, settled, labels, m, held.resolve(y + 1)) {
             met = true;

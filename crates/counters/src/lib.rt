@@ -28,6 +28,7 @@ pub fn note_answer(counts: &mut Record, n: usize)
 }
 
 // The record by value, with so many nodes more.
+// Kept: beside `with_answer`: each calls its own of the two above, and only the copy is shared.
 pub fn with_nodes(counts: Record, nodes: u64) -> Record
     requires { counts.visited + nodes < 2 ^ 64 }
     ensures { result ≡ counted counts nodes }
@@ -38,6 +39,7 @@ pub fn with_nodes(counts: Record, nodes: u64) -> Record
 }
 
 // The record by value, with an answer of so many words more.
+// Kept: as `with_nodes`.
 pub fn with_answer(counts: Record, n: usize) -> Record
     requires { (counts.answers + 1 < 2 ^ 64) × (counts.words + n < 2 ^ 64) }
     ensures { result ≡ noted counts n }

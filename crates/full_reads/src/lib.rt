@@ -17,6 +17,7 @@ pub fn read_full<R: Read>(reader: &mut R, buffer: &mut [u8]) -> Result<usize>
     ensures end { IfOk result (λ n. n < length buffer.new → IsAtEnd (R.remaining reader.new)) }
 {
     let mut filled = 0;
+    // Kept: each read takes as many bytes as it takes, so no `for` counts them.
     while filled < buffer.len() {
         let more = reader.read(&mut buffer[filled..])?;
         if more == 0 {

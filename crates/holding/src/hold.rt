@@ -86,6 +86,7 @@ fn place_values(arities: &[u8], words: &[u16], from: usize, starts: &mut [u16])
 {
     let mut p = from;
     for start in starts.iter_mut() {
+        // Kept: `as`, for the number is known to fit, and `try_from` would bring an error that can't come.
         *start = p as u16;
         p = term_end(arities, words, p);
     }

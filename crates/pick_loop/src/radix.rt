@@ -6,7 +6,7 @@ ghost use Rattle.pick_loop.specs.PicksInScratch.{left_open, right_open};
 use search::steps::Tails;
 
 // How many picks a t has: the m u's, and the right tail if it is an unknown.
-// Kept: beside `picks_of_u`: which tails are open differs, and each match says it.
+// Kept: beside `picks_of_u`, for another tail; as one function each caller would say which tail is open by a match of its own.
 pub fn picks_of_t(tails: Tails, m: usize) -> usize
     requires { m < 65535 }
     ensures { result ≡ radix (right_open tails) m }
@@ -18,6 +18,7 @@ pub fn picks_of_t(tails: Tails, m: usize) -> usize
 }
 
 // How many picks a u has: the n t's, and the left tail if it is an unknown.
+// Kept: as `picks_of_t`.
 pub fn picks_of_u(tails: Tails, n: usize) -> usize
     requires { n < 65535 }
     ensures { result ≡ radix (left_open tails) n }

@@ -16,7 +16,7 @@ pub enum Made {
 }
 
 // What became of a due node that is no dead end.
-// Kept: the three that are told of a node that is met; `only_child::next::reached` makes it of `Made`.
+// Kept: `node_turn`, `node_room` and `node_answers` of visits/specs/DueNode are stated of these three; `Made` has a fourth, `Dead`, that never meets them.
 #[derive(Clone, Copy)]
 pub enum Reached {
     Names,

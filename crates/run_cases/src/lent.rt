@@ -27,6 +27,7 @@ fn ended(ending: Ending, fewer: bool) -> Outcome {
 }
 
 // It was refused for want of room: is that because there is less than the case lends?
+// Kept: `as`, for there is no `From` between `usize` and `u64`, and `try_from` would bring an error that can't come.
 fn refused(refusal: Refusal, room: u64) -> Outcome {
     match refusal.cause {
         Cause::Buffer if refusal.place as u64 <= room => Outcome::Short,
@@ -35,6 +36,7 @@ fn refused(refusal: Refusal, room: u64) -> Outcome {
 }
 
 // At most so many answer words and so much room are lent as there are.
+// Kept: `as`, for there is no `From` between `usize` and `u64`, and `try_from` would bring an error that can't come.
 pub fn run_lent(loan: Loan, question: Question, answers: &mut [u16], room: &mut [u16]) -> Outcome {
     let fewer = (answers.len() as u64) < loan.space;
     match run(

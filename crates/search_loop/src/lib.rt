@@ -34,6 +34,7 @@ fn search_on(
         counts: first,
     };
     let mut shown = None;
+    // Kept: a turn says whether there is another.
     loop {
         let taken = take_turn(arities, limits, answers, room, place, shown);
         match taken.turn {

@@ -9,6 +9,7 @@ pub fn number(labels: &mut [u16])
     ensures { EachItsOwn labels.new }
 {
     for p in 0..labels.len() {
+        // Kept: `as`, for the number is known to fit, and `try_from` would bring an error that can't come.
         labels[p] = p as u16;
     }
 }

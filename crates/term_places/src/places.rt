@@ -59,6 +59,7 @@ impl<'a> Held<'a> {
         ensures { KernelOf (of self.now) p result }
     {
         let mut x = p;
+        // Kept: the rest of a set may stand at any place, so the walk ends where no member stands, and no `for` counts it.
         while self.words[x] == MEMBER {
             x = self.rest(x);
         }

@@ -14,6 +14,7 @@ fn covered(held: &Held, labels: &[u16], p: usize, m: usize) -> bool
     ensures { result ≡ some_equals (members (valued (of held.now) p)) (valued (of held.now) m) }
 {
     let mut x = p;
+    // Kept: the rest of a set may stand at any place, so the walk ends where no member stands, and no `for` counts it.
     while held.words[x] == MEMBER {
         if labels[held.resolve(x + 1)] == labels[m] {
             return true;
@@ -29,6 +30,7 @@ pub fn covers(held: &Held, labels: &[u16], p: usize, q: usize) -> bool
     ensures { result ≡ each_equalled (members (valued (of held.now) p)) (members (valued (of held.now) q)) }
 {
     let mut y = q;
+    // Kept: the rest of a set may stand at any place, so the walk ends where no member stands, and no `for` counts it.
     while held.words[y] == MEMBER {
         if covered(held, labels, p, held.resolve(y + 1)) {
             y = held.rest(y);

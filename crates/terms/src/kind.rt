@@ -51,6 +51,7 @@ pub fn terms_after(arities: &[u8], word: u16) -> u8
 
 // The word of unknown i, and the number of the unknown that has a word.
 // Kept: `as`, for a contract bounds the number, and `try_from` would bring an error that can't come.
+// Kept: beside `functor_word`: each has its own first word and limit in its clause, and no other file knows these.
 pub fn unknown_word(i: usize) -> u16
     requires { i < UNKNOWN_WORDS }
     ensures { result ≡ FIRST_UNKNOWN + i }
@@ -67,6 +68,7 @@ pub fn unknown_number(word: u16) -> u16
 
 // The word of functor k.
 // Kept: `as`, for a contract bounds the number, and `try_from` would bring an error that can't come.
+// Kept: as `unknown_word`.
 pub fn functor_word(k: usize) -> u16
     requires { k < FUNCTOR_WORDS }
     ensures { result ≡ FIRST_FUNCTOR + k }

@@ -29,6 +29,7 @@ impl Place {
         ensures counts { result.counts ≡ counted self.counts dead_ends }
     {
         Place {
+            // Kept: `as`, for there is no `From` between `usize` and `u64`, and `try_from` would bring an error that can't come.
             counts: with_nodes(self.counts, dead_ends as u64),
             ..self
         }
@@ -43,6 +44,7 @@ pub fn most_passed(limits: Limits, place: Place) -> usize
     if limits.depth <= place.level {
         return 0;
     }
+    // Kept: `as`, for there is no `From` between `usize` and `u64`, and `try_from` would bring an error that can't come.
     (limits.steps - place.counts.visited) as usize
 }
 

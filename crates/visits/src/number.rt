@@ -7,7 +7,7 @@ ghost use Rattle.visits.specs.ChildNumber.{number_of, number_words};
 fn number_from(low: u16, high: u16) -> usize
     ensures { result ≡ low + 65536 * high }
 {
-    low as usize + 65536 * high as usize
+    usize::from(low) + 65536 * usize::from(high)
 }
 
 // The number of its two words, low and high.
@@ -25,6 +25,7 @@ pub fn set_number(room: &mut [u16], at: usize, number: usize)
 {
     let low = number % 65536;
     let high = number / 65536;
+    // Kept: `as`, for the number is known to fit, and `try_from` would bring an error that can't come.
     let words = [low as u16, high as u16];
     room::copy_in(room, at + 5, &words);
 }

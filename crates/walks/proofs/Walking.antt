@@ -19,10 +19,6 @@ module _ (b : Bounds) (arities ws : List ℕ) (p : ℕ) where
   pub span-out : (d : ℕ) → p ≤ length ws → length ws - p < d → p + span b arities (drop p ws) d ≡ length ws
   span-out d l h = omega (arith, length-drop p ws, span_short b arities (drop p ws) d (rw (length-drop p ws) h))
 
-  pub span-all : (d : ℕ) → p ≤ length ws → length ws ≤ p → p + span b arities (drop p ws) d ≡ length ws
-  unfolding span
-  span-all d l h = rw (drop_of_length-le ws h) (omega arith)
-
   pub terms_out : (x d : ℕ) → length ws ≤ p → in_terms b arities x (drop p ws) d ≡ Absent
   unfolding in_terms
   terms_out x d h = rw (drop_of_length-le ws h)
