@@ -1,51 +1,19 @@
 -- What a turn of the loops of `copy_before` does, said of lists: words copied inside one room, up to the first x.
-use mathlib.Core.Path.{◌≡◌, refl, sym, ◌∙◌}
+use mathlib.Core.Path.{◌≡◌, sym, ◌∙◌}
 use mathlib.Core.Bool.{true}
 use mathlib.Core.List.{List, [], ◌∷◌, ◌++◌, append_assoc, append-nil}
 use Prim.Native.Nat.{ℕ, suc, ◌+◌, ◌-◌, ◌≤◌, ◌<◌}
 use native.Mathlib.Omega.{arith}
 use lib.ListN.{length, get_or, set}
-use Rattle.room.specs.Room.{seg, put, length-put, length-seg, seg-zero, seg-append, seg-cons, put-nil, put_one, put-put}
-use Rattle.room.specs.Parts.{CopyParts, apart_part, get_or-put, seg-put}
+use Rattle.room.specs.Room.{seg, put, length-seg, seg-zero, seg-append, seg-cons, put-nil, put_one}
+use Rattle.room.specs.Parts.{CopyParts, apart_part}
 use Rattle.room.specs.Replaced.{clear, before, clear-nil, clear_other, before_same, before-append}
-
--- r is r₀ with j of the n words at `from` written at `to`
-pub record Copying (r₀ : List ℕ) (from n to : ℕ) (r : List ℕ) (j : ℕ) : Type 0 where
-  pub room : r ≡ put r₀ to (seg r₀ from j)
-  pub count : j ≤ n
-  pub long : length r ≡ length r₀
-
-none_copied : (r₀ : List ℕ) (from n to : ℕ) → Copying r₀ from n to r₀ 0
-none_copied r₀ from n to = record { room = rw (seg-zero, put-nil); count = omega arith; long = refl }
-
-module _ {r₀ r : List ℕ} {from n to j : ℕ} (P : CopyParts r₀ from n to) (C : Copying r₀ from n to r j) where
-  -- a word that is still to be copied is as it was
-  unread : j < n → get_or r (from + j) 0 ≡ get_or r₀ (from + j) 0
-  unread h =
-      let l : length (seg r₀ from j) ≡ j = length-seg r₀ from j (omega (arith, P.from_within)) in
-      rw C.room (get_or-put (seg r₀ from j) r₀ (rw l (apart_part P.apart (omega arith) (omega arith) (omega arith) (omega arith))))
-
-  -- and so are k words
-  unread-part : (k : ℕ) → j + k ≤ n → seg r (from + j) k ≡ seg r₀ (from + j) k
-  unread-part k h =
-      let l : length (seg r₀ from j) ≡ j = length-seg r₀ from j (omega (arith, P.from_within)) in
-      rw C.room (seg-put (seg r₀ from j) r₀ (rw l (apart_part P.apart (omega arith) (omega arith) (omega arith) (omega arith))))
-
-  part_moved : (k : ℕ) (r' : List ℕ) → j + k ≤ n → r' ≡ put r (to + j) (seg r (from + j) k) → Copying r₀ from n to r' (j + k)
-  part_moved k r' h q =
-      let l : length (seg r₀ from j) ≡ j = length-seg r₀ from j (omega (arith, P.from_within)) in
-      record {
-        room = rw (q, unread-part k h, C.room, seg-append r₀ from j k, ← put-put (seg r₀ from j) r₀ (seg r₀ (from + j) k) to, l);
-        count = h;
-        long = rw (q, length-put) C.long;
-      }
-
--- ---- up to the first x
+use Rattle.room.proofs.Copying.{Copying, none_copied, unread, unread-part, part_moved}
 
 -- the words before the first x are those copied, and those before the first x of what is left
 pub record Running (r₀ : List ℕ) (from n x to : ℕ) (r : List ℕ) (j : ℕ) : Type 0 where
   pub parts : CopyParts r₀ from n to
-  pub copied : Copying r₀ from n to r j
+  pub copied : Copying r₀ r₀ from n to r j
   pub left : before x (seg r₀ from n) ≡ seg r₀ from j ++ before x (seg r₀ (from + j) (n - j))
 
 -- what `copy_before` ensures
@@ -56,7 +24,7 @@ pub none_run : {r₀ : List ℕ} {from n x to : ℕ} → CopyParts r₀ from n t
 none_run {r₀} {from} {n} {x} {to} P =
     let e : from + 0 ≡ from = omega arith in
     let f : n - 0 ≡ n = omega arith in
-    record { parts = P; copied = none_copied r₀ from n to; left = rw (seg-zero, e, f) }
+    record { parts = P; copied = none_copied r₀ r₀ from n to; left = rw (seg-zero, e, f) }
 
 module _ {r₀ r : List ℕ} {from n x to j : ℕ} (R : Running r₀ from n x to r j) where
   ended : before x (seg r₀ from n) ≡ seg r₀ from j → Ran r₀ from n x to j r

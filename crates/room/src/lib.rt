@@ -15,7 +15,9 @@ pub fn copy(room: &mut [u16], from: usize, n: usize, to: usize)
     requires { CopyParts room.old from n to }
     ensures { room.new ≡ put room.old to (seg room.old from n) }
 {
-    room.copy_within(from..from + n, to);
+    for j in 0..n {
+        room[to + j] = room[from + j];
+    }
 }
 
 // Copies all of `words` to the place `to` of the room.
@@ -23,5 +25,7 @@ pub fn copy_in(room: &mut [u16], to: usize, words: &[u16])
     requires { Within room.old to (length words.now) }
     ensures { room.new ≡ put room.old to words.now }
 {
-    room[to..to + words.len()].copy_from_slice(words);
+    for (j, word) in words.iter().enumerate() {
+        room[to + j] = *word;
+    }
 }
