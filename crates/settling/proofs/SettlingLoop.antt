@@ -7,9 +7,13 @@ use mathlib.Core.Logic.{◌⊎◌, inl, inr}
 use native.Mathlib.Omega.{arith}
 use native.Mathlib.Nat.{eq-or-lt_of_le}
 use lib.Dec.{eqb}
-use lib.ListN.{length, get_or, set, length-set}
+use lib.ListN.{length, get_or, set, drop, length-set, length-drop}
 use lib.Seq.{get_or-set_other}
 use borrow.Author.Tests.{eqb-true, eqb-false}
+use Rattle.std.specs.List.{list_any}
+use Rattle.std.proofs.lemmas.Bool.{eq-eqb}
+use Rattle.std.proofs.lemmas.List.{get_or-drop}
+use Rattle.std.proofs.lemmas.List.Folds.{list_any_at}
 use Rattle.terms.specs.Term.{Term}
 use Rattle.laws.proofs.Agree.{agree}
 use Rattle.laws.specs.Equal.{equal}
@@ -26,6 +30,27 @@ equal_ranks : (t u : Term) → equal t u ≡ true → rank t ≡ rank u
 equal_ranks t u e = rank-≈ ((agree t u).1 e)
 
 -- ---- one place is compared
+
+module _ {h : Held} {settled labels : List ℕ} {p rank : ℕ} (s : Settling h settled labels p rank) where
+  -- a settled place with an equal term has the same rank
+  same_rank : {q : ℕ} → q < length h.words → IsSettled settled q → equal (valued h p) (valued h q) ≡ true → get_or settled q 0 ≡ rank
+  same_rank i d e = sym ((s.ranked.ranked _ i).told d.below).rank ∙ sym (equal_ranks _ _ e) ∙ s.at.rank
+
+  found_later : {q : ℕ} → p < q → q < length settled → get_or settled q 0 ≡ rank → list_any (λ r. eqb r rank) (drop (p + 1) settled) ≡ true
+  found_later {q} l i e =
+      let place : p + 1 + (q - (p + 1)) ≡ q = omega arith in
+      let here = get_or-drop (p + 1) settled (q - (p + 1)) 0 ∙ ap (λ k. get_or settled k 0) place ∙ e in
+      list_any_at (λ r. eqb r rank) (drop (p + 1) settled) (q - (p + 1)) 0 (omega (arith, length-drop (p + 1) settled)) (eq-eqb _ _ here)
+
+  pub settles_alone : list_any (λ r. eqb r rank) (drop (p + 1) settled) ≡ false → Settles h settled labels labels p
+  settles_alone n =
+      record {
+        classes = s.so_far.classes;
+        coarser = (since_start s.so_far.classes).coarser;
+        joined = λ q i d e.
+            let past : q ≤ p → ⊥ = λ l. s.later q l d in
+            absurd (false≢true (sym n ∙ found_later (omega (arith, past)) d.inside (same_rank i d e)));
+      }
 
 pub record Passing (h : Held) (settled before labels : List ℕ) (p rank q : ℕ) : Type 0 where
   pub settling : Settling h settled before p rank
@@ -50,7 +75,7 @@ module _ {h : Held} {settled before labels : List ℕ} {p rank q : ℕ} (w : Pas
     passing_skip n = record { settling = w.settling; since = w.since; joined = λ y l d e. go y d e (eq-or-lt_of_le (omega arith)) }
       where
         other : IsSettled settled q → equal (valued h p) (valued h q) ≡ true → ⊥
-        other d e = n (sym ((w.settling.ranked.ranked q in_words).told d.below).rank ∙ sym (equal_ranks _ _ e) ∙ w.settling.at.rank)
+        other d e = n (same_rank w.settling in_words d e)
 
         go : (y : ℕ) → IsSettled settled y → equal (valued h p) (valued h y) ≡ true → (y ≡ q) ⊎ (y < q) → get_or labels p 0 ≡ get_or labels y 0
         go y d e (inl z) = absurd (other (rw z at d) (rw z at e))

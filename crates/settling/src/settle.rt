@@ -12,6 +12,10 @@ fn meet_settled(held: &Held, settled: &[u16], labels: &mut [u16], p: usize, rank
     requires { Settling (of held.now) settled.now labels.old p rank }
     ensures { Settles (of held.now) settled.now labels.old labels.new p }
 {
+    // Most terms have a rank that no later place has, and `contains` looks at many places at a time.
+    if !settled[p + 1..].contains(&rank) {
+        return;
+    }
     for q in p + 1..settled.len() {
         if settled[q] == rank && same(held, settled, labels, p, q) {
             return;
