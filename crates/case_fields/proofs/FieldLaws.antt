@@ -1,12 +1,14 @@
 -- Laws of a line's fields: what a search for the next TAB finds, and what each turn of a walk from field to field keeps.
 use Prim.Native.Nat.{ℕ, zero, suc, ◌+◌, ◌-◌, ◌≤◌, ◌<◌}
 use native.Mathlib.Omega.{arith}
-use mathlib.Core.Bool.{cond, not}
-use mathlib.Core.Path.{◌≡◌, sym, ap, ◌∙◌}
+use mathlib.Core.Bool.{Bool, cond, not}
+use mathlib.Core.Logic.{inl, inr}
+use mathlib.Core.Path.{◌≡◌, refl, sym, ap, ◌∙◌}
 use mathlib.Core.List.{List, [], ◌∷◌}
 use lib.Dec.{ltb, eqb}
 use lib.ListN.{length, take, drop, drop_of_length-le, length-drop}
 use lib.Seq.{take_all, take-nil, drop-nil}
+use Rattle.std.proofs.lemmas.Bool.{cases_Bool}
 use Rattle.std.proofs.lemmas.Bool.Decides.{nat_tests}
 use Rattle.std.proofs.lemmas.Grind.{common_steps}
 use Rattle.std.proofs.lemmas.List.Sums.{prefix_len-le-length}
@@ -26,6 +28,26 @@ unfolding index_of
 found b l r e =
     let h = prefix_len-le-length (λ (x : ℕ). not (eqb x b)) l in
     grind (arith, common_steps, nat_tests)
+
+-- none is left
+pub count_none : (b : ℕ) (l : List ℕ) → length l ≡ index_of b l → count b l ≡ 0
+unfolding count index_of
+count_none b [] e = refl
+count_none b (x ∷ xs) e =
+    let rest = count_none b xs in
+    grind (arith, common_steps, nat_tests)
+
+-- the first, and those after it
+pub count_past : (b : ℕ) (l : List ℕ) → index_of b l < length l → count b l ≡ suc (count b (drop (suc (index_of b l)) l))
+unfolding count index_of
+count_past b [] h = absurd (omega arith)
+count_past b (x ∷ xs) h =
+    let place = λ (same : Bool). cond (not same) (1 + index_of b xs) 0 in
+    let further : suc (index_of b xs) ≡ 1 + index_of b xs = omega arith in
+    elim (cases_Bool (eqb x b)) [
+      | inl e ↦ rw e refl
+      | inr e ↦ rw e (count_past b xs (omega (arith, ap place e, h)) ∙ ap (λ (i : ℕ). suc (count b (drop i xs))) further)
+    ]
 
 -- ---- fields
 
@@ -49,15 +71,23 @@ field_last l (suc n) end h e = absurd (omega arith)
 pub field_whole : (l : List ℕ) (due : ℕ) → due ≤ 0 → length l ≡ index_of 9 l → field_of due l ≡ l
 field_whole l due h e = field_last l due (length l) h e ∙ take_all (length l) l (omega arith)
 
+-- what stands after the first TAB
+pub rest_after : (l : List ℕ) (end : ℕ) → end ≡ index_of 9 l → take (length l - (end + 1)) (drop (end + 1) l) ≡ drop (suc (index_of 9 l)) l
+rest_after l end e =
+    let d = length-drop (end + 1) l in
+    let after : end + 1 ≡ suc (index_of 9 l) = omega (arith, e) in
+    take_all (length l - (end + 1)) (drop (end + 1) l) (omega (arith, d)) ∙ ap (λ (j : ℕ). drop j l) after
+
 -- one field further
 pub field_step : (l : List ℕ) (n i end : ℕ) → i < n → end ≡ index_of 9 l → field_of (n - i) l ≡ field_of (n - (i + 1)) (take (length l - (end + 1)) (drop (end + 1) l))
 unfolding field_of
 field_step l n i end h e =
     let k : n - i ≡ suc (n - (i + 1)) = omega arith in
-    let d = length-drop (end + 1) l in
-    let after : suc (index_of 9 l) ≡ end + 1 = omega (arith, e) in
-    let whole = take_all (length l - (end + 1)) (drop (end + 1) l) (omega (arith, d)) in
-    rw k (ap (λ (j : ℕ). field_of (n - (i + 1)) (drop j l)) after ∙ ap (field_of (n - (i + 1))) (sym whole))
+    rw k (ap (field_of (n - (i + 1))) (sym (rest_after l end e)))
+
+-- and one TAB fewer
+pub tabs_step : (l : List ℕ) (end : ℕ) → end < length l → end ≡ index_of 9 l → count 9 l ≡ suc (count 9 (take (length l - (end + 1)) (drop (end + 1) l)))
+tabs_step l end h e = count_past 9 l (omega (arith, h, e)) ∙ ap (λ (rest : List ℕ). suc (count 9 rest)) (sym (rest_after l end e))
 
 -- no TAB is left, and so no further field
 pub field_missing : (l : List ℕ) (due : ℕ) → 0 < due → length l ≡ index_of 9 l → field_of due l ≡ []

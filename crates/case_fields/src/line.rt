@@ -1,5 +1,5 @@
 // Where the fields of a line lie: TABs stand between them.
-ghost use Rattle.std.specs.Prelude.{◌≡◌, MatchOption, [], take};
+ghost use Rattle.std.specs.Prelude.{◌≡◌, ◌≤◌, ◌↔◌, IsSome, MatchOption, [], take};
 ghost use Rattle.case_fields.specs.Line.{count, field_of};
 
 use crate::scan::find;
@@ -13,9 +13,10 @@ pub fn tabs(line: &[u8]) -> usize
     line.iter().filter(|byte| **byte == TAB).count()
 }
 
-// Field n, counted from 0, if the line has so many.
+// Field n, counted from 0, if the line has so many. It may be empty.
 pub fn field(line: &[u8], n: usize) -> Option<&[u8]>
-    ensures { MatchOption result (field_of n line.now ≡ []) (λ part. part.now ≡ field_of n line.now) }
+    ensures there { IsSome result ↔ (n ≤ count 9 line.now) }
+    ensures exact { MatchOption result (field_of n line.now ≡ []) (λ part. part.now ≡ field_of n line.now) }
 {
     let mut rest = line;
     for _ in 0..n {
