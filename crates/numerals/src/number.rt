@@ -1,6 +1,6 @@
 // Numbers of a text: plain decimal, without a leading zero, of at most five digits.
 ghost use Rattle.std.specs.Prelude.{◌≡◌, ◌<◌, IfSome};
-ghost use Rattle.numerals.specs.Bytes.{of_byte};
+ghost use Rattle.numerals.specs.Bytes.{byte};
 ghost use Rattle.numerals.specs.Numbers.{digit, digits, number, between, of_digit, of_numeral};
 
 use crate::bytes::peek;
@@ -15,15 +15,22 @@ pub struct Numeral {
 }
 
 // The value of the digit b, if it is one.
-pub fn digit_of(b: Option<u8>) -> Option<usize>
-    ensures exact { of_digit result ≡ digit (of_byte b) }
+pub fn digit_of(b: usize) -> Option<usize>
+    ensures exact { of_digit result ≡ digit b }
     ensures below { IfSome result (λ d. d < 10) }
 {
-    let b = b?;
-    if !b.is_ascii_digit() {
-        return None;
+    match u8::try_from(b) {
+        Ok(b) if b.is_ascii_digit() => Some(usize::from(b - b'0')),
+        _ => None,
     }
-    Some(usize::from(b - b'0'))
+}
+
+// The value of the digit at `at`, if one stands there.
+fn digit_at(text: &[u8], at: usize) -> Option<usize>
+    ensures exact { of_digit result ≡ digit (byte text.now at) }
+    ensures below { IfSome result (λ d. d < 10) }
+{
+    digit_of(usize::from(peek(text, at)?))
 }
 
 // The digits at `at` after a first digit; `from` is the number's first byte.
@@ -34,7 +41,7 @@ pub fn read_digits(text: &[u8], from: usize, at: usize, first: usize) -> Result<
     let mut v = first;
     let mut p = at;
     for _ in 0..4usize {
-        match digit_of(peek(text, p)) {
+        match digit_at(text, p) {
             Some(d) => {
                 v = v * 10 + d;
                 p += 1;
@@ -44,7 +51,7 @@ pub fn read_digits(text: &[u8], from: usize, at: usize, first: usize) -> Result<
             }
         }
     }
-    match digit_of(peek(text, p)) {
+    match digit_at(text, p) {
         Some(_) => Err(Refusal {
             cause: Cause::Limit,
             place: from,
@@ -57,12 +64,12 @@ pub fn read_digits(text: &[u8], from: usize, at: usize, first: usize) -> Result<
 pub fn read_number(text: &[u8], at: usize) -> Result<Numeral, Refusal>
     ensures { of_numeral result ≡ number text.now at }
 {
-    match digit_of(peek(text, at)) {
+    match digit_at(text, at) {
         Some(first) => {
             if first != 0 {
                 return read_digits(text, at, at + 1, first);
             }
-            match digit_of(peek(text, at + 1)) {
+            match digit_at(text, at + 1) {
                 Some(_) => Err(Refusal {
                     cause: Cause::Number,
                     place: at,
