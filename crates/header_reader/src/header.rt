@@ -1,5 +1,5 @@
 // The header of a question's text: edition, unknowns, arities, equations.
-ghost use Rattle.std.specs.Prelude.{◌≡◌, []};
+ghost use Rattle.std.specs.Prelude.{◌≡◌, ◌≤◌, [], length, OnOk};
 ghost use Rattle.terms.specs.Bounds.{edition_one, FUNCTORS, ARITY};
 ghost use Rattle.numerals.specs.Bytes.{of_met};
 ghost use Rattle.numerals.specs.Numbers.{of_numeral};
@@ -37,7 +37,8 @@ fn read_line(
 // The arities, of which one is due at `at`: where reading goes on after them.
 fn read_numbers(text: &[u8], at: usize, arities: &mut Arities) -> Result<usize, Refusal>
     requires { arities.old.items ≡ [] }
-    ensures { of_met arities.new.items result ≡ arity_list FUNCTORS ARITY text.now at [] }
+    ensures exact { of_met arities.new.items result ≡ arity_list FUNCTORS ARITY text.now at [] }
+    ensures within { OnOk result (length arities.new.items ≤ FUNCTORS) }
 {
     let mut p = at;
     for _ in 0..bounds::FUNCTORS {
@@ -67,7 +68,8 @@ fn read_numbers(text: &[u8], at: usize, arities: &mut Arities) -> Result<usize, 
 
 // The line of the arities: a number is due after its key unless an LF follows at once.
 fn read_arities(text: &[u8], at: usize, arities: &mut Arities) -> Result<usize, Refusal>
-    ensures { of_met arities.new.items result ≡ arity_line edition_one text.now at }
+    ensures exact { of_met arities.new.items result ≡ arity_line edition_one text.now at }
+    ensures within { OnOk result (length arities.new.items ≤ FUNCTORS) }
 {
     let p = meet(text, at, &text::ARITIES)?;
     arities.clear();
@@ -88,7 +90,8 @@ pub struct Heading {
 
 // The four lines, with the arities in `arities`.
 pub fn read_header(text: &[u8], arities: &mut Arities) -> Result<Heading, Refusal>
-    ensures { of_heading result arities.new.items ≡ header edition_one text.now }
+    ensures exact { of_heading result arities.new.items ≡ header edition_one text.now }
+    ensures within { OnOk result (length arities.new.items ≤ FUNCTORS) }
 {
     let edition = read_line(text, 0, &text::EDITION, 1, 1)?;
     let unknowns = read_line(text, edition.end, &text::UNKNOWNS, 0, bounds::UNKNOWNS)?;

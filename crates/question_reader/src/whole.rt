@@ -1,6 +1,6 @@
 // A question's text: its header, and two terms for each equation, with nothing after.
-ghost use Rattle.std.specs.Prelude.{◌≡◌, ◌≤◌, length};
-ghost use Rattle.terms.specs.Bounds.{edition_one};
+ghost use Rattle.std.specs.Prelude.{◌≡◌, ◌≤◌, length, IfOk};
+ghost use Rattle.terms.specs.Bounds.{edition_one, FUNCTORS, SYMBOLS};
 ghost use Rattle.numerals.specs.Bytes.{of_met};
 ghost use Rattle.question_reader.specs.Questions.{side, equation, equations, question, of_question, Counted};
 
@@ -71,6 +71,7 @@ fn read_equations(
 pub fn read_whole(text: &[u8], arities: &mut Arities, words: &mut Words) -> Result<Counts, Refusal>
     ensures exact { of_question (length text.now) result arities.new.items words.new.items ≡ question edition_one text.now }
     ensures counted { Counted result arities.new.items words.new.items }
+    ensures within { IfOk result (λ c. (c.functors ≤ FUNCTORS) × (c.words ≤ SYMBOLS)) }
 {
     let head = read_header(text, arities)?;
     let declared = Declared {

@@ -12,8 +12,8 @@ use Rattle.header_reader.proofs.header.read_numbers.Goals as goal
 pub loop-init : goal.loop-init
 loop-init c = rw c.requires (refl, refl)
 
-pub returns-in_err-read : goal.returns-in_err-read
-returns-in_err-read c =
+pub returns-in_err-read-clause-exact : goal.returns-in_err-read-clause-exact
+returns-in_err-read-clause-exact c =
     let p = err_from_is_err_and c.from_residual.result c.from_residual.ensures.1 in
     rw (p.1, p.2) (arity_unfit _ _ _ _ _ (omega arith) _ (sym c.in_err-read.ensures) ∙ sym c.loop.invariant.0)
 
@@ -23,19 +23,19 @@ overflow_cast-read c = omega (arith, between-most _ _ _ _ _ _ (sym c.in_ok-read.
 pub overflow_add-result : goal.overflow_add-result
 overflow_add-result c = omega (arith, found _ _ c.in-Some-eq10.ensures (omega arith))
 
-pub returns-in-Some-eq10 : goal.returns-in-Some-eq10
-returns-in-Some-eq10 c =
+pub returns-in-Some-eq10-clause-exact : goal.returns-in-Some-eq10-clause-exact
+returns-in-Some-eq10-clause-exact c =
     rw c.push.ensures.items (
     arity_last _ _ _ _ _ _ (sym c.in_ok-read.ensures) c.in-Some-eq10.ensures _ (omega arith) c.in-Some-eq10.field-0-test ∙ sym c.loop.invariant.0
     )
 
-pub returns-in_default : goal.returns-in_default
-returns-in_default c =
+pub returns-in_default-clause-exact : goal.returns-in_default-clause-exact
+returns-in_default-clause-exact c =
     let t = c.in_default.field-0-test in
     arity_other _ _ _ _ _ _ (sym c.in_ok-read.ensures) c.in_default.ensures _ (omega arith) t.1 t.0.1 ∙ sym c.loop.invariant.0
 
-pub returns-in_default-2 : goal.returns-in_default-2
-returns-in_default-2 c =
+pub returns-in_default-2-clause-exact : goal.returns-in_default-2-clause-exact
+returns-in_default-2-clause-exact c =
     arity_other _ _ _ _ _ _ (sym c.in_ok-read.ensures) (rw c.in_default.is at c.peek.ensures) _ (omega arith) (λ z. absurd (omega arith)) (λ z. absurd (omega arith))
     ∙ sym c.loop.invariant.0
 
@@ -51,5 +51,5 @@ loop-preserved c =
       search rules,
     )
 
-pub returns : goal.returns
-returns c = arity_full _ _ _ _ _ (omega arith) ∙ sym c.loop.invariant.0
+pub returns-clause-exact : goal.returns-clause-exact
+returns-clause-exact c = arity_full _ _ _ _ _ (omega arith) ∙ sym c.loop.invariant.0
