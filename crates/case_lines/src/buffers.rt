@@ -24,10 +24,10 @@ pub struct Lists {
     pub row: [u16; ITEMS],
 }
 
-// What an entry lays down, and what a run works in.
+// What an entry lays down, and what a run works in. The room is lent, for an array that is written into a struct can stand on the stack twice.
 #[derive(Drop)]
-pub struct Laid {
+pub struct Laid<'a> {
     pub bytes: [u8; BYTES],
     pub words: [u16; ITEMS],
-    pub room: [u16; ROOM],
+    pub room: &'a mut [u16; ROOM],
 }

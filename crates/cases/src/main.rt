@@ -39,6 +39,7 @@ fn answer<'a>(case: Case, laid: &'a mut Laid) -> Answer<'a> {
         words: laid_words,
         room,
     } = laid;
+    let room = &mut **room;
     match case {
         Case::Read {
             text,
@@ -108,10 +109,11 @@ fn main(rt: HostRuntime) -> io::Result<()> {
         words: [0; ITEMS],
         row: [0; ITEMS],
     };
+    let mut room = [0; ROOM];
     let mut laid = Laid {
         bytes: [0; BYTES],
         words: [0; ITEMS],
-        room: [0; ROOM],
+        room: &mut room,
     };
     let mut page = [0; PAGE];
     take_lines(&rt, &mut lists, &mut laid, &mut page)
