@@ -60,7 +60,8 @@ pub fn read_digits(text: &[u8], from: usize, at: usize, first: usize) -> Result<
     }
 }
 
-// The number at `at`.
+// The number at `at`. As a call of its own it gives its value by way of memory, and 256 arities take twice as long to read.
+#[inline(always)]
 pub fn read_number(text: &[u8], at: usize) -> Result<Numeral, Refusal>
     ensures { of_numeral result ≡ number text.now at }
 {
