@@ -60,7 +60,7 @@ pub fn read_digits(text: &[u8], from: usize, at: usize, first: usize) -> Result<
     }
 }
 
-// The number at `at`. As a call of its own it gives its value by way of memory, and 256 arities take twice as long to read.
+// The number at `at`. This and `read_between` stand in their callers: as calls they give a value by way of memory, and arities take much longer to read.
 #[inline(always)]
 pub fn read_number(text: &[u8], at: usize) -> Result<Numeral, Refusal>
     ensures { of_numeral result ≡ number text.now at }
@@ -89,6 +89,7 @@ pub fn read_number(text: &[u8], at: usize) -> Result<Numeral, Refusal>
 }
 
 // The number at `at`, which is to lie between two limits.
+#[inline(always)]
 pub fn read_between(text: &[u8], at: usize, low: usize, high: usize) -> Result<Numeral, Refusal>
     ensures { of_numeral result ≡ between low high text.now at }
 {
