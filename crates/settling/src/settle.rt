@@ -12,7 +12,7 @@ fn meet_settled(held: &Held, settled: &[u16], labels: &mut [u16], p: usize, rank
     requires { Settling (of held.now) settled.now labels.old p rank }
     ensures { Settles (of held.now) settled.now labels.old labels.new p }
 {
-    // Most terms have a rank that no later place has, and `contains` looks at many places at a time.
+    // Where no later place has this rank, as in deep terms, nothing is to be compared; `contains` looks at many places at a time.
     if !settled[p + 1..].contains(&rank) {
         return;
     }
