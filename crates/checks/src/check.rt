@@ -57,16 +57,22 @@ pub fn check_words(
 ) -> Result<(), Refusal>
     ensures { result ≡ checked edition_one arities.now unknowns words.now 0 answers 0 terms }
 {
+    if words.len() < terms {
+        return check_short(arities, unknowns, words, 0);
+    }
     let mut answers_due = answers;
     let mut bindings_due: usize = 0;
-    let mut terms_due = terms;
+    // Where the terms that are due end, unless a word asks for more.
+    let mut terms_end = terms;
     for (place, word) in words.iter().enumerate() {
-        if 0 < terms_due {
-            if words.len() - place < terms_due {
-                return check_short(arities, unknowns, words, place);
-            }
+        if place < terms_end {
             match what_follows(arities, unknowns, *word) {
-                Ok(more) => terms_due = terms_due - 1 + usize::from(more),
+                Ok(more) => {
+                    terms_end += usize::from(more);
+                    if words.len() < terms_end {
+                        return check_short(arities, unknowns, words, place + 1);
+                    }
+                }
                 Err(cause) => return Err(Refusal { cause, place }),
             }
         } else if 0 < bindings_due {
@@ -77,7 +83,7 @@ pub fn check_words(
                 });
             }
             bindings_due -= 1;
-            terms_due = 1;
+            terms_end = place + 2;
         } else if 0 < answers_due {
             answers_due -= 1;
             bindings_due = usize::from(*word);
@@ -88,7 +94,7 @@ pub fn check_words(
             });
         }
     }
-    if 0 < terms_due || 0 < bindings_due || 0 < answers_due {
+    if words.len() < terms_end || 0 < bindings_due || 0 < answers_due {
         return Err(Refusal {
             cause: Cause::WordsStop,
             place: words.len(),

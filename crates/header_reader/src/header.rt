@@ -67,6 +67,8 @@ fn read_numbers(text: &[u8], at: usize, arities: &mut Arities) -> Result<usize, 
 }
 
 // The line of the arities: a number is due after its key unless an LF follows at once.
+// It stands by itself: within its callers too few registers are left for its loop, and each turn goes to memory for the count and the text's length.
+#[inline(never)]
 fn read_arities(text: &[u8], at: usize, arities: &mut Arities) -> Result<usize, Refusal>
     ensures exact { of_met arities.new.items result ≡ arity_line edition_one text.now at }
     ensures within { OnOk result (length arities.new.items ≤ FUNCTORS) }

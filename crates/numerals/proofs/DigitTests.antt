@@ -8,13 +8,15 @@ use borrow.Author.Tests.{ne_eqb, lt-ltb, le-ltb, ltb-true, ltb-false}
 use lib.Dec.{ltb}
 use lib.ListN.{length}
 use Rattle.std.specs.Char.{IsNotAsciiDigit}
+use Rattle.std.specs.Option.{is_some}
+use Rattle.std.specs.Prelude.{Option, Some, None, IfSome, true, false}
 use Rattle.terms.specs.Lists.{cases}
 use Rattle.terms.specs.declared.refusal.Cause.TheVariants.{Number, Limit}
 use Rattle.terms.specs.declared.refusal.Refusal.{Refusal}
 use Rattle.text.specs.Text.{choose}
 use Rattle.numerals.specs.TextReading.{read, refused, fault, then-read, then-refused}
 use Rattle.numerals.specs.Bytes.{byte, in_text}
-use Rattle.numerals.specs.Numbers.{digit, digits, number, between, digit-below, digit-above}
+use Rattle.numerals.specs.Numbers.{digit, digits, number, between, digit-below, digit-above, of_digit}
 
 -- a byte that is a digit is a byte of the text
 pub digit_in : (s : List ℕ) (p : ℕ) → digit (byte s p) < 10 → p < length s
@@ -26,6 +28,15 @@ digit_in s p h =
 pub digit_none : (b : ℕ) → IsNotAsciiDigit b → 10 ≡ digit b
 digit_none b (inl h) = sym (digit-below b h)
 digit_none b (inr h) = sym (digit-above b (omega arith))
+
+-- whether a digit was found, as the code tests it
+pub digit_some : (r : Option ℕ) → is_some r ≡ true → IfSome r (λ d. d < 10) → of_digit r < 10
+digit_some (Some d) e h = h
+digit_some None e h = let z : ◌≡◌ {A = ℕ} 0 1 = cc in absurd (omega arith)
+
+pub digit_missing : (r : Option ℕ) → is_some r ≡ false → 10 ≤ of_digit r
+digit_missing (Some d) e = let z : ◌≡◌ {A = ℕ} 0 1 = cc in absurd (omega arith)
+digit_missing None e = omega arith
 
 -- d was found at p
 module _ (s : List ℕ) (p : ℕ) {d : ℕ} (e : d ≡ digit (byte s p)) where

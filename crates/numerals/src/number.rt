@@ -67,19 +67,13 @@ pub fn read_number(text: &[u8], at: usize) -> Result<Numeral, Refusal>
 {
     match digit_at(text, at) {
         Some(first) => {
-            if first != 0 {
-                return read_digits(text, at, at + 1, first);
-            }
-            match digit_at(text, at + 1) {
-                Some(_) => Err(Refusal {
+            if first == 0 && digit_at(text, at + 1).is_some() {
+                return Err(Refusal {
                     cause: Cause::Number,
                     place: at,
-                }),
-                None => Ok(Numeral {
-                    value: 0,
-                    end: at + 1,
-                }),
+                });
             }
+            read_digits(text, at, at + 1, first)
         }
         None => Err(Refusal {
             cause: Cause::Number,
