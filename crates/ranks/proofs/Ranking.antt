@@ -139,13 +139,18 @@ module _ {h : Held} {ranks : List ℕ} {due : ℕ} (w : Rated h ranks due) (z : 
   pub rated_of : OfPlace h ranks (due - 1)
   rated_of = record { ranked = w.ranked; inside = let i = w.inside in omega arith }
 
-  pub rated_set_of : get_or h.words (due - 1) 0 ≡ MEMBER → OfSet h ranks (due - 1)
-  rated_set_of e = record { ranked = w.ranked; inside = rated_of.inside; member = e }
+  -- a set whose rank is still due
+  pub rated_set_due : get_or h.words (due - 1) 0 ≡ MEMBER → OfSet h ranks (due - 1)
+  rated_set_due e = record { ranked = w.ranked; inside = rated_of.inside; member = e }
 
   module _ {r : ℕ} (t : RankTold h (due - 1) r) where
     pub rated_on : Rated h (set ranks (due - 1) r) (due - 1)
     rated_on = record { ranked = ranked_set w.ranked rated_of.inside t; inside = let i = w.inside in omega arith }
 
-    pub rated_past : get_or h.words (due - 1) 0 ≡ MEMBER
-        → Rated h (set (set ranks (due - 1) r) (end h.bounds h.arities h.words (due - 1 + 1)) 65535) (due - 1)
-    rated_past e = record { ranked = ranked_set rated_on.ranked (ends_in (rated_set_of e)) (not-told (omega arith)); inside = rated_on.inside }
+    module _ (e : get_or h.words (due - 1) 0 ≡ MEMBER) where
+      -- and once it is noted
+      pub rated_set_of : OfSet h (set ranks (due - 1) r) (due - 1)
+      rated_set_of = record { ranked = rated_on.ranked; inside = rated_of.inside; member = e }
+
+      pub rated_past : Rated h (set (set ranks (due - 1) r) (end h.bounds h.arities h.words (due - 1 + 1)) 65535) (due - 1)
+      rated_past = record { ranked = ranked_set rated_on.ranked (ends_in rated_set_of) (not-told (omega arith)); inside = rated_on.inside }

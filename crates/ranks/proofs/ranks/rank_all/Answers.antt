@@ -3,30 +3,29 @@ use native.Mathlib.Omega.{arith}
 use Rattle.terms.specs.Bounds.{edition_one}
 use Rattle.terms.specs.Kind as kinds
 use Rattle.ranks.specs.Ranked.{not-told}
-use Rattle.ranks.proofs.Ranking.{high_known, empty_told, next_in, ends_in, rated_of, rated_on, rated_set_of, rated_past}
+use Rattle.ranks.proofs.Ranking.{high_known, empty_told, next_in, ends_in, rated_of, rated_set_due, rated_on, rated_set_of, rated_past}
 use Rattle.ranks.proofs.ranks.rank_all.Goals as goal
 
 -- ---- a set
 
 pub term_end-rest-requires : goal.term_end-rest-requires
 term_end-rest-requires c =
-    let o = rated_set_of c.loop-p.invariant c.loop-p-test.true (kinds.member_told edition_one (sym c.in-Member.is ∙ c.kind_of.ensures)) in
+    let o = rated_set_due c.loop-p.invariant c.loop-p-test.true (kinds.member_told edition_one (sym c.in-Member.is ∙ c.kind_of.ensures)) in
     record { unknowns = _; terms = o.ranked.placed.terms; inside = next_in o }
 
 pub rank_of_set-requires-clause-of_set : goal.rank_of_set-requires-clause-of_set
 rank_of_set-requires-clause-of_set c =
-    rated_set_of c.loop-p.invariant c.loop-p-test.true (kinds.member_told edition_one (sym c.in-Member.is ∙ c.kind_of.ensures))
+    rated_set_due c.loop-p.invariant c.loop-p-test.true (kinds.member_told edition_one (sym c.in-Member.is ∙ c.kind_of.ensures))
 
 pub offset_bounds-ranks-rest : goal.offset_bounds-ranks-rest
 offset_bounds-ranks-rest c =
-    let o = rated_set_of c.loop-p.invariant c.loop-p-test.true (kinds.member_told edition_one (sym c.in-Member.is ∙ c.kind_of.ensures)) in
+    let o = rated_set_due c.loop-p.invariant c.loop-p-test.true (kinds.member_told edition_one (sym c.in-Member.is ∙ c.kind_of.ensures)) in
     omega (arith, c.term_end-rest.ensures, ends_in o, o.ranked.long)
 
 pub bounds-ranks-rest : goal.bounds-ranks-rest
 bounds-ranks-rest c =
-    let o = rated_set_of c.loop-p.invariant c.loop-p-test.true (kinds.member_told edition_one (sym c.in-Member.is ∙ c.kind_of.ensures)) in
-    let on = rated_on c.loop-p.invariant c.loop-p-test.true c.rank_of_set.ensures in
-    omega (arith, c.term_end-rest.ensures, ends_in o, on.ranked.long)
+    let o = rated_set_of c.loop-p.invariant c.loop-p-test.true c.rank_of_set.ensures (kinds.member_told edition_one (sym c.in-Member.is ∙ c.kind_of.ensures)) in
+    omega (arith, c.term_end-rest.ensures, ends_in o, o.ranked.long)
 
 pub loop-p-preserved-in-Member : goal.loop-p-preserved-in-Member
 loop-p-preserved-in-Member c =
