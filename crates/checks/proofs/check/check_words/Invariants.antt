@@ -1,5 +1,5 @@
 -- `checks::check::check_words` meets its contract. The loop's invariant: the check of all words is that of the words from the place on, with what is due there.
--- The terms that are due end within the words, or `check_short` takes over; a binding's last word alone may have its term due where the words have ended.
+-- The terms that are due end within the words, or `check_short` takes over; only where a binding's unknown is the last word, its term is due where the words have ended.
 use Rattle.std.proofs.Common.{◌≡◌, ◌≤◌, ◌+◌, ◌-◌, length, drop}
 use Rattle.terms.specs.Bounds.{edition_one}
 use Rattle.checks.specs.Check.{checked}
